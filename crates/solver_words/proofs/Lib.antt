@@ -1,0 +1,4 @@
+pub mod Commands
+pub mod JobLengths
+pub mod Numbers
+pub mod OptionSteps

@@ -1,0 +1,55 @@
+-- What the command words name: a job, or the first fault.
+use Rattle.std.specs.Prelude.{ℕ, List, [], ◌∷◌, Bool, not, nat_eq, unwrap_or, Result, Ok, Err, codes, if◌then◌else◌}
+use Rattle.std.specs.List.{starts_with}
+use Rattle.std.specs.Str.{bytes_eq}
+use Rattle.solver_words.specs.declared.fault.WordFault.{WordFault}
+use Rattle.solver_words.specs.declared.fault.WordFault.TheVariants.{NoCommand, UnknownCommand, MissingName, UnknownOption}
+use Rattle.solver_words.specs.declared.job.Job.{Job}
+use Rattle.solver_words.specs.declared.job.Job.TheVariants as job
+use Rattle.solver_words.specs.Choice.{◌>>=◌}
+use Rattle.solver_words.specs.Options.{no_options, options_from}
+
+-- the word does not begin with two dashes
+abbrev pub is_name : List ℕ → Bool
+is_name word = not (starts_with nat_eq word (codes "--"))
+
+-- the words after a name
+abbrev pub after_name : List (List ℕ) → Result (List (List ℕ)) WordFault
+after_name [] = Err MissingName
+after_name (name ∷ rest) = if is_name name then Ok rest else Err MissingName
+
+-- there is no further word, the first of which would stand at the place
+abbrev pub no_more : ℕ → List (List ℕ) → Result (Unit {0}) WordFault
+no_more at [] = Ok tt
+no_more at (word ∷ rest) = Err (UnknownOption at)
+
+-- after `solve`: the names of the rules and the deal, then options
+abbrev pub solve_of : List (List ℕ) → Result Job WordFault
+solve_of words =
+    after_name words >>= λ words. after_name words >>= λ words. options_from 3 no_options words >>= λ given.
+    Ok (job.Solve (unwrap_or given.nodes 1000000))
+
+-- after `replay`: the names of the rules, the deal and the line
+abbrev pub replay_of : List (List ℕ) → Result Job WordFault
+replay_of words =
+    after_name words >>= λ words. after_name words >>= λ words. after_name words >>= λ words. no_more 4 words >>= λ _.
+    Ok job.Replay
+
+-- after `rules`: the name of the rules
+abbrev pub rules_of : List (List ℕ) → Result Job WordFault
+rules_of words = after_name words >>= λ words. no_more 2 words >>= λ _. Ok job.Rules
+
+-- the job that the words name, or their first fault
+abbrev pub job_of : List (List ℕ) → Result Job WordFault
+job_of [] = Err NoCommand
+job_of (command ∷ words) =
+    if bytes_eq command (codes "solve") then solve_of words
+    else (if bytes_eq command (codes "replay") then replay_of words
+    else (if bytes_eq command (codes "rules") then rules_of words
+    else Err UnknownCommand))
+
+-- how many files the job has, which the words from 1 on name
+abbrev pub name_count : Job → ℕ
+name_count (job.Solve nodes) = 2
+name_count job.Replay = 3
+name_count job.Rules = 1

@@ -1,0 +1,93 @@
+use crate::{Job, WordFault, read_words};
+use std::alloc::{AllocError, Global};
+use std::test::Fail;
+
+// The pieces between blanks. An empty line has one piece, which is empty.
+fn split(alloc: Global, line: &str) -> Result<Vec<String>, AllocError> {
+    let mut words = Vec::new(alloc);
+    for word in line.split(' ') {
+        words.push(String::from_str(alloc, word)?)?;
+    }
+    Ok(words)
+}
+
+#[test]
+fn reads_each_command(rt: HostRuntime) -> Result<(), Fail> {
+    let solve = |nodes| Ok(Job::Solve { nodes });
+    for (line, want) in [
+        ("solve R D", solve(1_000_000)),
+        ("solve -x ", solve(1_000_000)),
+        ("solve R D --nodes 1", solve(1)),
+        ("solve R D --nodes 1000000000000", solve(1_000_000_000_000)),
+        ("replay R D L", Ok(Job::Replay)),
+        ("rules R", Ok(Job::Rules)),
+        ("rules -", Ok(Job::Rules)),
+    ] {
+        let words = split(rt.alloc(), line)?;
+        assert!(rt; words.len() < 100);
+        assert_eq!(rt; read_words(&words), want, "at {line}");
+    }
+    Ok(())
+}
+
+#[test]
+fn refuses_with_the_first_fault(rt: HostRuntime) -> Result<(), Fail> {
+    assert_eq!(rt; read_words(&[]), Err(WordFault::NoCommand));
+    for (line, want) in [
+        ("", WordFault::UnknownCommand),
+        ("Solve R D", WordFault::UnknownCommand),
+        ("deal R --seed 1", WordFault::UnknownCommand),
+        ("solve", WordFault::MissingName),
+        ("solve R", WordFault::MissingName),
+        ("solve R --nodes 5", WordFault::MissingName),
+        ("solve R --seed 5", WordFault::MissingName),
+        ("solve -- D", WordFault::MissingName),
+        ("replay R D", WordFault::MissingName),
+        ("replay R D --nodes 5", WordFault::MissingName),
+        ("rules --x", WordFault::MissingName),
+        ("solve R D L", WordFault::UnknownOption(3)),
+        ("solve R D --seed 1", WordFault::UnknownOption(3)),
+        (
+            "solve R D --nodes 5 --narrow 1",
+            WordFault::UnknownOption(5),
+        ),
+        ("replay R D L M", WordFault::UnknownOption(4)),
+        ("rules R --nodes 5", WordFault::UnknownOption(2)),
+        ("solve R D --nodes 5 --nodes", WordFault::RepeatedOption(5)),
+        ("solve R D --nodes", WordFault::MissingValue(3)),
+        ("solve R D --nodes 0", WordFault::BadOptionValue(4)),
+        ("solve R D --nodes 05", WordFault::BadOptionValue(4)),
+        ("solve R D --nodes +5", WordFault::BadOptionValue(4)),
+        ("solve R D --nodes ", WordFault::BadOptionValue(4)),
+        (
+            "solve R D --nodes 1000000000001",
+            WordFault::BadOptionValue(4),
+        ),
+        (
+            "solve R D --nodes 18446744073709551621",
+            WordFault::BadOptionValue(4),
+        ),
+        ("solve R D --nodes x --what", WordFault::BadOptionValue(4)),
+    ] {
+        let words = split(rt.alloc(), line)?;
+        assert!(rt; words.len() < 100);
+        assert_eq!(rt; read_words(&words), Err(want), "at {line}");
+    }
+    Ok(())
+}
+
+#[test]
+fn prints_each_fault(rt: HostRuntime) -> Result<(), Fail> {
+    for (fault, want) in [
+        (WordFault::NoCommand, "no-command"),
+        (WordFault::UnknownCommand, "unknown-command"),
+        (WordFault::MissingName, "missing-name"),
+        (WordFault::UnknownOption(3), "unknown-option 3"),
+        (WordFault::RepeatedOption(5), "repeated-option 5"),
+        (WordFault::MissingValue(3), "missing-value 3"),
+        (WordFault::BadOptionValue(4), "bad-option-value 4"),
+    ] {
+        assert_eq!(rt; format!(in rt.alloc(); "{fault}")?.as_str(), want);
+    }
+    Ok(())
+}

@@ -1,0 +1,89 @@
+// The words of a command line.
+ghost use Rattle.std.specs.Prelude.{◌≡◌, ◌+◌, ◌<◌, ◌≤◌, ◌^◌, length, Ok, Err, IfOk, IfErr};
+ghost use Rattle.solver_words.specs.Texts.{texts};
+ghost use Rattle.solver_words.specs.Jobs.{is_name as is_name_of, after_name as after_name_of, no_more as no_more_of, solve_of, replay_of, rules_of, job_of, name_count};
+
+use crate::options::read_options;
+use crate::{Job, WordFault};
+
+const DEFAULT_NODES: u64 = 1_000_000;
+
+fn is_name(word: &str) -> bool
+    ensures { result ≡ is_name_of word.now }
+{
+    !word.starts_with("--")
+}
+
+// The words after a name.
+fn after_name(words: &[String]) -> Result<&[String], WordFault>
+    ensures rest { IfOk result (λ rest. after_name_of (texts words.now) ≡ Ok (texts rest.now)) }
+    ensures missing { IfErr result (λ fault. after_name_of (texts words.now) ≡ Err fault) }
+    ensures shorter { IfOk result (λ rest. length rest.now + 1 ≡ length words.now) }
+{
+    match words.split_first() {
+        Some((name, rest)) if is_name(name.as_str()) => Ok(rest),
+        _ => Err(WordFault::MissingName),
+    }
+}
+
+// Refuses any word, the first of which stands at the place.
+fn no_more(at: u32, words: &[String]) -> Result<(), WordFault>
+    ensures { result ≡ no_more_of at (texts words.now) }
+{
+    if words.is_empty() {
+        Ok(())
+    } else {
+        Err(WordFault::UnknownOption(at))
+    }
+}
+
+fn solve(words: &[String]) -> Result<Job, WordFault>
+    requires { length words.now + 1 < 2 ^ 32 }
+    ensures job { result ≡ solve_of (texts words.now) }
+    ensures names { IfOk result (λ job. name_count job ≤ length words.now) }
+{
+    let words = after_name(words)?;
+    let words = after_name(words)?;
+    let given = read_options(3, words)?;
+    Ok(Job::Solve {
+        nodes: given.nodes.unwrap_or(DEFAULT_NODES),
+    })
+}
+
+fn replay(words: &[String]) -> Result<Job, WordFault>
+    ensures job { result ≡ replay_of (texts words.now) }
+    ensures names { IfOk result (λ job. name_count job ≤ length words.now) }
+{
+    let words = after_name(words)?;
+    let words = after_name(words)?;
+    let words = after_name(words)?;
+    no_more(4, words)?;
+    Ok(Job::Replay)
+}
+
+fn rules(words: &[String]) -> Result<Job, WordFault>
+    ensures job { result ≡ rules_of (texts words.now) }
+    ensures names { IfOk result (λ job. name_count job ≤ length words.now) }
+{
+    let words = after_name(words)?;
+    no_more(2, words)?;
+    Ok(Job::Rules)
+}
+
+/// The job that the words after the program's name stand for, or their first fault. A job's file
+/// names are the words from 1 on, and each of them is there. Takes no memory.
+pub fn read_words(words: &[String]) -> Result<Job, WordFault>
+    requires { length words.now < 2 ^ 32 }
+    ensures job { result ≡ job_of (texts words.now) }
+    ensures names { IfOk result (λ job. name_count job < length words.now) }
+{
+    let Some((command, words)) = words.split_first() else {
+        return Err(WordFault::NoCommand);
+    };
+    match command.as_str() {
+        "solve" => solve(words),
+        "replay" => replay(words),
+        "rules" => rules(words),
+        _ => Err(WordFault::UnknownCommand),
+    }
+}
