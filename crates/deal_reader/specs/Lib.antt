@@ -1,0 +1,5 @@
+pub mod FaultText
+pub mod Entries
+pub mod Position
+pub mod Bytes
+pub mod Spelling

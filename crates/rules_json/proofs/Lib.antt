@@ -1,0 +1,5 @@
+pub mod Reading
+pub mod Named
+pub mod Spelled
+pub mod Lengths
+pub mod RoundTrip

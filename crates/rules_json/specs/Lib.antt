@@ -1,0 +1,6 @@
+pub mod Faults
+pub mod Words
+pub mod Values
+pub mod Parts
+pub mod RulesFile
+pub mod Spelling
