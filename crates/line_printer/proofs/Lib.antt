@@ -1,0 +1,13 @@
+pub mod LineTexts
+pub mod Numbers
+pub mod Cuts
+pub mod Words
+pub mod Steps
+pub mod Reading
+pub mod Blanks
+pub mod Places
+pub mod MovesRead
+pub mod MovesWritten
+pub mod FilesRead
+pub mod TextsBack
+pub mod Heads
