@@ -1,0 +1,44 @@
+use Rattle.std.proofs.Common.{◌≡◌, ◌∙◌, refl, sym, subst, [], arith, true, IsSome}
+use Rattle.std.proofs.lemmas.Result.{IfOk-weaker}
+use Rattle.trails.specs.Trails.{end, IsTrail}
+use Rattle.trails.specs.Walks.{Follows}
+use Rattle.dfs_core.specs.Play.{game_of}
+use Rattle.dfs_core.specs.Answer.{EndsWith}
+use Rattle.dfs_core.proofs.Moves.{follows_none, walk_none}
+use Rattle.dfs_core.proofs.Keeping.{fresh_none}
+use Rattle.trails.proofs.NoWin.{none_wins}
+use Rattle.dfs_core.proofs.Standings.{some_same}
+use Rattle.dfs_core.proofs.depth_first.search.Goals as goal
+
+pub returns-then-is_won-clause-answer : goal.returns-then-is_won-clause-answer
+returns-then-is_won-clause-answer g c =
+    let play = g.S.Space.play c.args.space.now in
+    let eq = g.S.Key.PartialEq.eq in
+    let start = g.S.Space.state c.args.space.now in
+    let game = game_of play eq in
+    record {
+      walk = [];
+      is_walk = walk_none play eq start;
+      fresh = fresh_none play eq start (g.M.Memo.capacity c.args.memo);
+      count = omega arith;
+      ends = subst (λ ts. Follows game start [] ts × IsTrail game start ts × (play.won (end game start ts) ≡ true)) (sym (c.from_vec.ensures ∙ c.new-steps.ensures.items))
+          (follows_none play eq start, tt, sym c.is_won.ensures ∙ c.if-is_won.true);
+    }
+
+pub rewind-requires : goal.rewind-requires
+rewind-requires g c =
+    subst (λ o. IsSome o) (sym c.run-found.ensures.leads) refl
+
+pub returns-clause-back : goal.returns-clause-back
+returns-clause-back g c =
+    some_same (sym c.rewind.ensures ∙ c.run-found.ensures.leads)
+
+pub returns-clause-no_win : goal.returns-clause-no_win
+returns-clause-no_win g c =
+    let play = g.S.Space.play c.args.space.now in
+    let start = g.S.Space.state c.args.space.now in
+    let game = game_of play g.S.Key.PartialEq.eq in
+    IfOk-weaker c.run-found.result _ _ (λ found a e complete n.
+    none_wins game (g.S.Space.wins c.args.space.now) start a.walk complete a.is_walk
+    (subst (EndsWith game start (g.M.Memo.capacity c.args.memo) a.walk c.run-found.new.budget.spent c.run-found.new.budget.limit) e a.ends) n)
+    c.run-found.ensures.answer
