@@ -1,0 +1,43 @@
+-- What each stage of a job hands on.
+use Rattle.std.specs.Prelude.{ℕ, ◌≡◌, List, Result, Ok, Err, ⊤}
+use Rattle.game_rules.specs.declared.RuleParts.{RuleParts}
+use Rattle.deal_reader.specs.declared.fault.DealFault.{DealFault}
+use Rattle.deal_reader.specs.FaultText.{deal_fault_text}
+use Rattle.deal_reader.specs.Position.{position_of}
+use Rattle.line_printer.specs.declared.fault.LineFault.{LineFault}
+use Rattle.line_printer.specs.FaultText.{line_fault_text}
+use Rattle.line_printer.specs.LineFile.{line_of}
+use Rattle.outside_io.specs.Faults.{Rose}
+use Rattle.solver_words.specs.declared.job.Job.{Job}
+use Rattle.patience.specs.declared.report.FileRole.{FileRole}
+use Rattle.patience.specs.declared.report.FileRole.TheVariants as role
+use Rattle.patience.specs.declared.report.Stop.{Stop}
+use Rattle.patience.specs.declared.report.Stop.TheVariants.{Told, NoMemory}
+use Rattle.patience.specs.declared.status.Status.{Status}
+use Rattle.patience.specs.declared.status.Status.TheVariants.{ShelfFailed, RulesRefused, DealRefused, LineRefused}
+use Rattle.patience.specs.Causes.{Shelved, Explains, rules_for}
+use Rattle.patience.specs.Texts.{failed_text, refused_text}
+
+-- a stop that tells a status and a text has their cause
+abbrev pub Stops : (Status → List ℕ → Type 0) → Stop → Type 0
+Stops explains (Told report) = explains report.status report.text.items
+Stops explains NoMemory = ⊤
+
+-- a file failed, and the count of its name rose
+abbrev pub IsFailure : FileRole → ℕ → ℕ → Status → List ℕ → Type 0
+IsFailure file before after status text = (status ≡ ShelfFailed) × (text ≡ failed_text file) × Rose before after
+
+-- the rules file has the printed fault
+abbrev pub RefusesRules : Job → List ℕ → Status → List ℕ → Type 0
+RefusesRules job bytes status text =
+    (fault : List ℕ) × (rules_for job bytes ≡ Err fault) × (status ≡ RulesRefused) × (text ≡ refused_text role.Rules fault)
+
+-- the deal file has the printed fault
+abbrev pub RefusesDeal : RuleParts → List ℕ → Status → List ℕ → Type 0
+RefusesDeal rules bytes status text =
+    (fault : DealFault) × (position_of rules bytes ≡ Err fault) × (status ≡ DealRefused) × (text ≡ refused_text role.Deal (deal_fault_text fault))
+
+-- the line file has the printed fault
+abbrev pub RefusesLine : List ℕ → Status → List ℕ → Type 0
+RefusesLine bytes status text =
+    (fault : LineFault) × (line_of bytes ≡ Err fault) × (status ≡ LineRefused) × (text ≡ refused_text role.Line (line_fault_text fault))

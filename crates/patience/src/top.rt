@@ -1,0 +1,50 @@
+// The top call.
+ghost use Rattle.std.specs.Prelude.{◌≡◌, ◌<◌, ◌^◌, List, ℕ, length};
+ghost use Rattle.std.specs.Io.KnownBytes.{Appends, Keeps};
+ghost use Rattle.outside_io.specs.Faults.{Rose};
+ghost use Rattle.outside_io.specs.Sink.{AppendsPrefix};
+ghost use Rattle.solver_words.specs.Texts.{texts};
+ghost use Rattle.patience.specs.Causes.{Explains};
+ghost use Rattle.patience.specs.Answers.{Follows, WritesWhole, WritesPart};
+
+use crate::jobs::make_report;
+use crate::lines::put_lines;
+use crate::status::Status;
+use outside_io::{Shelf, Sink};
+use std::alloc::Global;
+
+/// Does the job that the words name, with the files of the shelf, and writes its text to the sink.
+pub fn patience<S: Shelf, K: Sink>(
+    alloc: Global,
+    words: &[String],
+    shelf: &mut S,
+    sink: &mut K,
+) -> Status
+    requires { length words.now < 2 ^ 32 }
+
+    // The whole text was written and nothing else, and it has its cause.
+    ensures whole { WritesWhole
+        (Explains (record { files = S.files shelf.old; before = S.faults shelf.old; after = S.faults shelf.new }) (texts words.now))
+        (K.written sink.old) (K.written sink.new) result }
+
+    // Each answer to words and bytes is given exactly where it is due, unless the sink or memory failed.
+    ensures exact { Follows
+        (record { files = S.files shelf.old; before = S.faults shelf.old; after = S.faults shelf.new }) (texts words.now) result }
+
+    // Where the sink failed, a prefix of such a text was written.
+    ensures sink_failed { result ≡ Status.SinkFailed → Rose (K.faults sink.old) (K.faults sink.new) }
+    ensures part { result ≡ Status.SinkFailed → WritesPart
+        (Explains (record { files = S.files shelf.old; before = S.faults shelf.old; after = S.faults shelf.new }) (texts words.now))
+        (K.written sink.old) (K.written sink.new) }
+
+    // Without memory nothing was written.
+    ensures memory { result ≡ Status.Memory → Keeps (K.written sink.old) (K.written sink.new) }
+{
+    let Ok(report) = make_report(alloc, words, shelf) else {
+        return Status::Memory;
+    };
+    match put_lines(sink, &report.text) {
+        Ok(()) => report.status,
+        Err(_) => Status::SinkFailed,
+    }
+}
