@@ -24,10 +24,10 @@ use rules_json::{RulesFault, read_rules};
 use solver_words::Job;
 use std::alloc::Global;
 
-/// The most bytes of a rules file and of a deal file.
+/// How many bytes a rules file or a deal file may have.
 const MAX_FILE_LENGTH: u64 = 65_536;
 
-/// The most bytes of a line file.
+/// How many bytes a line file may have.
 const MAX_LINE_LENGTH: u64 = 67_108_864;
 
 /// The word at a place, and no text where there is none.
@@ -198,6 +198,7 @@ pub fn fetch_line<S: Shelf>(
     ensures stopped { IfErr result (Stops (Explains
         (record { files = S.files shelf.old; before = S.faults shelf.old; after = S.faults shelf.new }) (texts words.now))) }
 {
+    // The contract alone speaks of the rules and the board.
     let _ = rules;
     let _ = board;
     let name = word_at(words, 3);

@@ -1,4 +1,10 @@
-//! The solver's program: one job from the command words.
+//! The program: one job from the command words, with the files that they name, to the text that it prints.
+//!
+//! Means: a `Status` is how a run ended, and its number the exit status; a `Report` is a status and its text.
+//! Above: whoever runs the program relies on `patience`, whose clauses say of each status and text why they came, and
+//! which status is due to words and files.
+//! Refuses: words, rules, deals and lines by their first fault, a file that fails, a sink that fails, want of memory.
+//! Not promised: what a disk or a terminal holds, time, and what `main` does before the call.
 #![tactic(auto)]
 
 mod files;
@@ -18,7 +24,7 @@ use std::process::ExitCode;
 use std::{env, io};
 use top::patience;
 
-// The words after the program's name, or the status of a failure to have them.
+/// The words after the program's name, or the exit status where they cannot be had.
 fn words(rt: &HostRuntime) -> Result<Vec<String>, u8> {
     let arguments = match env::args(rt) {
         Ok(arguments) => arguments,

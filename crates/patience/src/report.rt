@@ -10,8 +10,11 @@ use std::fmt;
 /// The files that a job may have.
 #[derive(Clone, Copy, Debug, PartialEq, Eq)]
 pub enum FileRole {
+    /// Word 1.
     Rules,
+    /// Word 2.
     Deal,
+    /// Word 3.
     Line,
 }
 
@@ -37,7 +40,9 @@ pub struct Report {
 /// Why a job has no text of its own: it was refused or a file failed, or there was no memory.
 #[derive(Drop)]
 pub enum Stop {
+    /// A refusal or a failure, with its text.
     Told(Report),
+    /// There was no memory.
     NoMemory,
 }
 

@@ -1,4 +1,4 @@
-// The top call.
+//! The top call.
 ghost use Rattle.std.specs.Prelude.{◌≡◌, ◌<◌, ◌^◌, List, ℕ, length};
 ghost use Rattle.std.specs.Io.KnownBytes.{Appends, Keeps};
 ghost use Rattle.outside_io.specs.Faults.{Rose};
@@ -14,6 +14,11 @@ use outside_io::{Shelf, Sink};
 use std::alloc::Global;
 
 /// Does the job that the words name, with the files of the shelf, and writes its text to the sink.
+///
+/// The words are those after the program's name. The text, the job's own or that of a refusal, is built whole and then
+/// put line by line. Where a put fails none follows, the status is `SinkFailed`, and a prefix of the text was written.
+/// `Memory` comes before the first put alone, and then nothing was written. The words are looked at first, then the rules,
+/// the deal and the line, each fetched and read before the next, and the first fault is the answer.
 pub fn patience<S: Shelf, K: Sink>(
     alloc: Global,
     words: &[String],
