@@ -168,7 +168,7 @@ fn a_fetch_that_fails_is_told_by_its_file(rt: HostRuntime) -> Result<(), Fail> {
 #[test]
 fn a_put_that_fails_leaves_a_prefix(rt: HostRuntime) -> Result<(), Fail> {
     let alloc = rt.alloc();
-    let mut length = 0;
+    let mut length: usize = 0;
     for (call, line) in WON.split_inclusive('\n').enumerate() {
         let mut shelf = shelf(alloc)?;
         let mut sink = MemorySink::new(alloc, 1000)?;
@@ -177,11 +177,33 @@ fn a_put_that_fails_leaves_a_prefix(rt: HostRuntime) -> Result<(), Fail> {
         assert!(rt; words.len() < 100);
         let status = patience(alloc, &words, &mut shelf, &mut sink);
         assert_eq!(rt; status, Status::SinkFailed, "at call {call}");
-        assert!(rt;
-            sink.bytes() == &WON.as_bytes()[..length + 1],
+        let whole = WON.as_bytes().starts_with(sink.bytes());
+        assert!(rt; whole, "at call {call}");
+        assert_eq!(rt;
+            sink.bytes().len(),
+            length.saturating_add(1),
             "at call {call}"
         );
-        length += line.len();
+        length = length.saturating_add(line.len());
+    }
+    Ok(())
+}
+
+#[test]
+fn a_file_that_was_cut_is_no_json(rt: HostRuntime) -> Result<(), Fail> {
+    let alloc = rt.alloc();
+    for length in 0..RULES.len() {
+        let mut shelf = MemoryShelf::new(alloc);
+        shelf.add("cut", &RULES[..length])?;
+        let mut sink = MemorySink::new(alloc, 1000)?;
+        let words = words(alloc, "solve cut nowhere")?;
+        assert!(rt; words.len() < 100);
+        let status = patience(alloc, &words, &mut shelf, &mut sink);
+        assert_eq!(rt; status, Status::RulesRefused, "at {length}");
+        assert!(rt;
+            sink.bytes() == b"refused rules not-json\n".as_slice(),
+            "at {length}"
+        );
     }
     Ok(())
 }
