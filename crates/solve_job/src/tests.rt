@@ -1,3 +1,6 @@
+ghost use Rattle.std.specs.Prelude.{IfOk};
+ghost use Rattle.game_rules.specs.Belonging.{Belongs};
+
 use crate::{Limits, is_built, solve};
 use card_piles::{Build, Card, Suit};
 use game_model::{Board, Conflict, Rules};
@@ -63,7 +66,9 @@ fn cards(alloc: Global, text: &[u8]) -> Result<Items<Card>, BoardFault> {
 }
 
 /// The board of these piles and this hole.
-fn board(alloc: Global, rules: &Rules, piles: &[&[u8]], hole: &[u8]) -> Result<Board, BoardFault> {
+fn board(alloc: Global, rules: &Rules, piles: &[&[u8]], hole: &[u8]) -> Result<Board, BoardFault>
+    ensures { IfOk result (λ board. Belongs rules.now board) }
+{
     let mut tableau = Items::new(alloc);
     for pile in piles {
         if tableau.push(cards(alloc, pile)?).is_err() {

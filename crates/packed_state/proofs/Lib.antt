@@ -1,0 +1,5 @@
+pub mod Seams
+pub mod Putting
+pub mod Taking
+pub mod Deals
+pub mod Returning

@@ -1,0 +1,4 @@
+pub mod Noting
+pub mod Packed
+pub mod Spots
+pub mod Undoing
