@@ -251,11 +251,12 @@ fn board_of_text(alloc: Global, rules: &Rules, text: &str) -> Result<Board, Fail
     Ok(board)
 }
 
+/// The place of a word: its first letter and its number, `e` being an entry of the reserve.
 fn place_of(word: &str) -> Place {
     match word.as_bytes() {
         [b't', i] => Place::Tableau(i.saturating_sub(b'0')),
         [b'c', i] => Place::Cell(i.saturating_sub(b'0')),
-        [b'r', i] => Place::Reserve(i.saturating_sub(b'0')),
+        [b'e', i] => Place::Reserve(i.saturating_sub(b'0')),
         [b'f', i] => Place::Foundation(i.saturating_sub(b'0')),
         [b's', i] => Place::Slot(i.saturating_sub(b'0')),
         [b'h'] => Place::Hole,
@@ -415,18 +416,18 @@ fn a_stacked_reserve_takes_its_card_again(rt: HostRuntime) -> Result<(), Fail> {
         alloc,
         "stacked",
         "reserve 2C AC pile 3C home 0 3 3 3",
-        "r0 f0",
+        "e0 f0",
         "reserve 2C pile 3C home 1 3 3 3",
-        "r1 t1",
+        "e1 t1",
     )?;
     row(
         &rt,
         alloc,
         "none",
         "reserve 2C AC pile 3C home 0 3 3 3",
-        "r1 f0",
+        "e1 f0",
         "reserve 2C - pile 3C home 1 3 3 3",
-        "r0 f0",
+        "e0 f0",
     )?;
     row(
         &rt,
