@@ -14,6 +14,8 @@ mod dealing;
 mod going;
 mod legal;
 mod packing;
+#[cfg(test)]
+mod profiles;
 mod put;
 mod reading;
 mod spots;

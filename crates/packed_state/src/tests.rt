@@ -16,7 +16,7 @@ use std::test::Fail;
 
 /// Three ranks, three piles, two cells, a reserve of two, foundations from the ace, and a stock
 /// that deals one card to the waste.
-fn plain_parts() -> RuleParts {
+pub(crate) fn plain_parts() -> RuleParts {
     RuleParts {
         decks: 1,
         max_rank: 3,
@@ -45,7 +45,7 @@ fn plain_parts() -> RuleParts {
     }
 }
 
-fn foundations(base: u8, take_back: bool, complete_runs: bool) -> Goal {
+pub(crate) fn foundations(base: u8, take_back: bool, complete_runs: bool) -> Goal {
     Goal::Foundations {
         base,
         started: false,
@@ -54,19 +54,19 @@ fn foundations(base: u8, take_back: bool, complete_runs: bool) -> Goal {
     }
 }
 
-fn hole(wrap: bool) -> Goal {
+pub(crate) fn hole(wrap: bool) -> Goal {
     Goal::Hole {
         wrap,
         start: HoleStart::Dealt,
     }
 }
 
-fn set_build(parts: &mut RuleParts, build: Build) {
+pub(crate) fn set_build(parts: &mut RuleParts, build: Build) {
     parts.build = build;
     parts.group_build = build;
 }
 
-fn set_rows(parts: &mut RuleParts) {
+pub(crate) fn set_rows(parts: &mut RuleParts) {
     parts.goal = Goal::Sequences;
     parts.piles = 0;
     parts.cells = 0;
@@ -132,7 +132,7 @@ fn rules_of(text: &str) -> Result<Rules, Fail> {
     Ok(rules)
 }
 
-fn no_parts(alloc: Global) -> BoardParts {
+pub(crate) fn no_parts(alloc: Global) -> BoardParts {
     BoardParts {
         tableau: Items::new(alloc),
         face_down: Items::new(alloc),
@@ -181,7 +181,7 @@ fn digit(word: &str) -> u8 {
 }
 
 /// Begins a pile or a row.
-fn begin(alloc: Global, parts: &mut BoardParts, part: Part) -> Result<(), AllocError> {
+pub(crate) fn begin(alloc: Global, parts: &mut BoardParts, part: Part) -> Result<(), AllocError> {
     match part {
         Part::Tableau => parts.tableau.push(Items::new(alloc)),
         Part::Rows => parts.rows.push(Items::new(alloc)),
@@ -189,14 +189,14 @@ fn begin(alloc: Global, parts: &mut BoardParts, part: Part) -> Result<(), AllocE
     }
 }
 
-fn push_card(cards: &mut Items<Card>, card: Option<Card>) -> Result<(), AllocError> {
+pub(crate) fn push_card(cards: &mut Items<Card>, card: Option<Card>) -> Result<(), AllocError> {
     match card {
         Some(card) => cards.push(card),
         None => Ok(()),
     }
 }
 
-fn add_to_pile(parts: &mut BoardParts, card: Option<Card>) -> Result<(), AllocError> {
+pub(crate) fn add_to_pile(parts: &mut BoardParts, card: Option<Card>) -> Result<(), AllocError> {
     if let Some(mut pile) = parts.tableau.pop() {
         push_card(&mut pile, card)?;
         parts.tableau.push(pile)?;
@@ -204,7 +204,7 @@ fn add_to_pile(parts: &mut BoardParts, card: Option<Card>) -> Result<(), AllocEr
     Ok(())
 }
 
-fn add_to_row(parts: &mut BoardParts, entry: Option<Card>) -> Result<(), AllocError> {
+pub(crate) fn add_to_row(parts: &mut BoardParts, entry: Option<Card>) -> Result<(), AllocError> {
     if let Some(mut row) = parts.rows.pop() {
         row.push(entry)?;
         parts.rows.push(row)?;
@@ -329,7 +329,12 @@ fn same_boards(rules: &Rules, a: &Board, b: &Board) -> bool
 /// the second is refused, does not stand there and leaves the board as it is.
 
 /// Whether the packed board reads as the board does.
-fn stands_for(alloc: Global, rules: &Rules, packed: &Packed, board: &Board) -> Result<bool, Fail>
+pub(crate) fn stands_for(
+    alloc: Global,
+    rules: &Rules,
+    packed: &Packed,
+    board: &Board,
+) -> Result<bool, Fail>
     requires packed { Belongs rules.now (board_of packed.now) }
     requires board { Belongs rules.now board.now }
 {
