@@ -1,7 +1,9 @@
 -- What a verdict says of a start.
-use Rattle.std.specs.Prelude.{◌≡◌, ◌≢◌, ℕ, ◌+◌, ◌≤◌, List, length, All, AllPairs, Contains}
+use Rattle.std.specs.Prelude.{◌≡◌, ℕ, ◌≤◌, ◌<◌, List, [], ◌∷◌, ◌++◌, length, min, ⊤}
 use Rattle.trails.specs.Game.{Game}
-use Rattle.trails.specs.Trails.{IsTrail, IsClean}
+use Rattle.trails.specs.Trails.{IsClean}
+use Rattle.trails.specs.Walks.{Follows, IsWalk, IsClosed}
+use Rattle.trails.specs.Fresh.{IsFresh, IsCover}
 use Rattle.game_rules.specs.declared.RuleParts.{RuleParts}
 use Rattle.game_rules.specs.declared.Move.{Move}
 use Rattle.game_rules.specs.Board.{Board}
@@ -15,46 +17,60 @@ use Rattle.line_printer.specs.declared.verdict.Verdict.TheVariants as verdict
 abbrev pub plain_game : RuleParts → Game Board Move
 plain_game rules = record { steps = legal_moves rules; after = after rules; Won = Won rules; Same = λ a b. a ≡ b }
 
-module _ {State Step : Type 0} (game : Game State Step) where
-  -- so many clean trails, no two of them equal
-  pub record AreTrails (start : State) (count : ℕ) : Type 0 where
-    pub trails : List (List Step)
-    pub long : length trails ≡ count
-    pub clean : All (IsClean game start) trails
-    pub differ : AllPairs (λ a b. a ≢ b) trails
+-- The boards that were expanded are the ends of a walk of so many trails, no more than the limit. The walk
+-- comes to a board again only where at least `cache` others were touched since.
+pub record IsSearched (rules : RuleParts) (start : Board) (cache limit nodes : ℕ) (walk : List (List Move)) : Type 0 where
+  pub is_walk : IsWalk (plain_game rules) start walk
+  pub fresh : IsFresh (plain_game rules) cache start walk
+  pub count : length walk ≡ nodes
+  pub within : nodes ≤ limit
 
-  -- there are so many trails, and all are clean
-  pub record AreAllTrails (start : State) (count : ℕ) : Type 0 where
-    pub some : AreTrails start count
-    pub all : (trail : List Step) → IsTrail game start trail → Contains some.trails trail
-
--- The line is one of legal moves to a won board. As many boards were expanded as clean trails led to,
--- and among them is each board of the line but the last.
-pub record IsWinnable (rules : RuleParts) (start : Board) (limit : ℕ) (line : List Move) (nodes : ℕ) : Type 0 where
+-- The line is one of legal moves to a won board. It follows the walk.
+pub record IsWinnable (rules : RuleParts) (start : Board) (cache limit : ℕ) (line : List Move) (nodes : ℕ) : Type 0 where
   pub end : Board
   pub legal : Line rules start line end
   pub won : Won rules end
-  pub on_the_line : length line ≤ nodes
-  pub expanded : AreTrails (plain_game rules) start nodes
-  pub within : nodes ≤ limit
+  pub walk : List (List Move)
+  pub searched : IsSearched rules start cache limit nodes walk
+  pub follows : Follows (plain_game rules) start walk line
 
--- No line of legal moves, of any length, leads to a won board. As many boards were expanded as there are lines.
-pub record IsUnwinnable (rules : RuleParts) (start : Board) (limit nodes : ℕ) : Type 0 where
+-- No line of legal moves, of any length, leads to a won board. The walk is closed.
+pub record IsUnwinnable (rules : RuleParts) (start : Board) (cache limit nodes : ℕ) : Type 0 where
   pub never : ¬ Winnable rules start
-  pub expanded : AreAllTrails (plain_game rules) start nodes
+  pub walk : List (List Move)
+  pub searched : IsSearched rules start cache limit nodes walk
+  pub closed : IsClosed (plain_game rules) start walk
   pub some_node : 1 ≤ nodes
-  pub within : nodes ≤ limit
 
--- All nodes were spent, and one more board was met that is not won, each along another clean trail.
-pub record IsUndecided (rules : RuleParts) (start : Board) (limit nodes : ℕ) : Type 0 where
+-- All nodes were spent, and a further clean trail follows the walk: one more board was met that is not won. So
+-- every list of boards that covers the game is longer than the nodes or longer than the cache.
+pub record IsUndecided (rules : RuleParts) (start : Board) (cache limit nodes : ℕ) : Type 0 where
   pub spent : nodes ≡ limit
-  pub met : AreTrails (plain_game rules) start (nodes + 1)
+  pub walk : List (List Move)
+  pub searched : IsSearched rules start cache limit nodes walk
+  pub further : List Move
+  pub clean : IsClean (plain_game rules) start further
+  pub follows : Follows (plain_game rules) start walk further
+  pub fresh : IsFresh (plain_game rules) cache start (walk ++ further ∷ [])
+  pub covers : (boards : List Board) → IsCover (plain_game rules) start boards → min nodes cache < length boards
 
--- what a verdict says of a start, where so many nodes may be spent
-abbrev pub IsVerdict : RuleParts → Board → ℕ → Verdict → Type 0
-IsVerdict rules start limit (verdict.Winnable line nodes narrow_nodes) =
-    IsWinnable rules start limit line nodes × (narrow_nodes ≡ 0)
-IsVerdict rules start limit (verdict.Unwinnable nodes narrow_nodes) =
-    IsUnwinnable rules start limit nodes × (narrow_nodes ≡ 0)
-IsVerdict rules start limit (verdict.Undecided nodes narrow_nodes) =
-    IsUndecided rules start limit nodes × (narrow_nodes ≡ 0)
+-- what a verdict says of a start, where so many nodes may be spent and so many finished boards are remembered
+abbrev pub IsVerdict : RuleParts → Board → ℕ → ℕ → Verdict → Type 0
+IsVerdict rules start cache limit (verdict.Winnable line nodes narrow_nodes) =
+    IsWinnable rules start cache limit line nodes × (narrow_nodes ≡ 0)
+IsVerdict rules start cache limit (verdict.Unwinnable nodes narrow_nodes) =
+    IsUnwinnable rules start cache limit nodes × (narrow_nodes ≡ 0)
+IsVerdict rules start cache limit (verdict.Undecided nodes narrow_nodes) =
+    IsUndecided rules start cache limit nodes × (narrow_nodes ≡ 0)
+
+-- the verdict is winnable or unwinnable
+abbrev pub IsDecided : Verdict → Type 0
+IsDecided (verdict.Winnable line nodes narrow_nodes) = ⊤
+IsDecided (verdict.Unwinnable nodes narrow_nodes) = ⊤
+IsDecided (verdict.Undecided nodes narrow_nodes) = ⊥
+
+-- some list of at most so many boards covers the game
+pub record IsSmall (rules : RuleParts) (start : Board) (limit : ℕ) : Type 0 where
+  pub boards : List Board
+  pub covers : IsCover (plain_game rules) start boards
+  pub few : length boards ≤ limit

@@ -1,0 +1,92 @@
+//! The space with every legal move.
+ghost use Rattle.std.specs.Prelude.{◌≡◌, ℕ};
+ghost use Rattle.game_rules.specs.Belonging.{Belongs};
+ghost use Rattle.game_rules.specs.Winning.{Wins};
+ghost use Rattle.packed_state.specs.Packed.{board_of};
+ghost use Rattle.trails.specs.Complete.{IsComplete};
+ghost use Rattle.dfs_core.specs.Play.{game_of};
+ghost use Rattle.search_space.specs.Plain.{play_of};
+
+use crate::BoardKey;
+use dfs_core::Space;
+use game_model::{Board, Rules};
+use game_rules::Move;
+use packed_state::{Packed, Undo};
+use std::alloc::Global;
+use std::marker::Model;
+use transposition::NoMemory;
+
+/// A packed board that belongs to its rules, with every legal move as a step.
+#[derive(Drop)]
+pub struct PlainSpace<'a> {
+    rules: &'a Rules,
+    packed: Packed,
+}
+
+impl<'a> Model for PlainSpace<'a> {
+    ghost use Rattle.game_rules.specs.Conflicts.{IsPlayable};
+    ghost use Rattle.game_rules.specs.Belonging.{Belongs};
+    ghost use Rattle.packed_state.specs.Packed.{board_of};
+    ghost use Rattle.search_space.specs.Plain.{Standing};
+
+    ghost Value = { Standing };
+
+    ghost view = { λ s. record { rules = s.rules.now; packed = s.packed } };
+
+    ghost invariant = { λ s. Belongs s.rules.now (board_of s.packed) };
+}
+
+impl<'a> PlainSpace<'a> {
+    /// The space that stands on the start.
+    pub fn new(rules: &'a Rules, start: &Board) -> PlainSpace<'a>
+        requires { Belongs rules.now start.now }
+        ensures rules { result.rules ≡ rules.now }
+        ensures stands { board_of result.packed ≡ start.now }
+    {
+        PlainSpace {
+            rules,
+            packed: Packed::from_board(rules, start),
+        }
+    }
+}
+
+impl<'a> Space for PlainSpace<'a> {
+    type Key = BoardKey;
+
+    type Step = Move;
+
+    type Undo = Undo;
+
+    type State = Board;
+
+    ghost state = { λ s. board_of s.packed };
+
+    ghost play = { λ s. play_of s.rules };
+
+    ghost before = { λ undo s. before_of undo s };
+
+    ghost wins = { λ s n board. Wins s.rules n board };
+
+    fn steps(&mut self, alloc: Global, out: &mut Vec<Move>) -> Result<(), NoMemory> {
+        match self.packed.list_moves(alloc, self.rules, out) {
+            Ok(()) => Ok(()),
+            Err(_) => Err(NoMemory),
+        }
+    }
+
+    fn go(&mut self, step: Move) -> Undo {
+        self.packed.go(self.rules, step)
+    }
+
+    fn back(&mut self, undo: Undo) {
+        self.packed.back(undo);
+    }
+
+    fn is_won(&self) -> bool {
+        self.packed.is_won(self.rules)
+    }
+
+    fn key(&self) -> BoardKey {
+        BoardKey::of(self.rules, &self.packed)
+    }
+}
