@@ -1,2 +1,4 @@
 pub mod Keys
+pub mod Reading
+pub mod Well
 pub mod Plain

@@ -1,5 +1,5 @@
--- What a space with every legal move plays, and where it stands.
-use Rattle.std.specs.Prelude.{ℕ, List}
+-- What a space with every legal move plays, where it stands, and what it comes back to.
+use Rattle.std.specs.Prelude.{ℕ, List, Option, Some, None, if◌then◌else◌}
 use Rattle.game_rules.specs.declared.RuleParts.{RuleParts}
 use Rattle.game_rules.specs.declared.Move.{Move}
 use Rattle.game_rules.specs.Board.{Board}
@@ -7,8 +7,12 @@ use Rattle.game_rules.specs.Play.{after}
 use Rattle.game_rules.specs.Order.{legal_moves}
 use Rattle.game_rules.specs.Winning.{is_won}
 use Rattle.packed_state.specs.declared.Packed.{Packed}
+use Rattle.packed_state.specs.declared.Undo.{Undo}
+use Rattle.packed_state.specs.Packed.{board_of}
+use Rattle.packed_state.specs.Undoing.{before}
 use Rattle.dfs_core.specs.Play.{Play}
 use Rattle.search_space.specs.Keys.{key_of}
+use Rattle.search_space.specs.Well.{is_well}
 
 -- every legal move in the order of moves, the board after it, the won boards, and the key of each board
 abbrev pub play_of : RuleParts → Play Board Move (List ℕ)
@@ -18,3 +22,13 @@ play_of rules = record { steps = legal_moves rules; after = after rules; won = i
 pub record Standing : Type 0 where
   pub rules : RuleParts
   pub packed : Packed
+
+-- a packed board that belongs to the rules, as a standing
+abbrev pub standing_on : RuleParts → Option Packed → Option Standing
+standing_on rules None = None
+standing_on rules (Some packed) =
+    if is_well rules (board_of packed) then Some (record { rules = rules; packed = packed }) else None
+
+-- the space before a step: on the packed board that the undo gives, where its board belongs to the rules
+abbrev pub before_of : Undo → Standing → Option Standing
+before_of undo standing = standing_on standing.rules (before undo standing.packed)

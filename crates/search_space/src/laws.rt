@@ -1,7 +1,7 @@
 //! What the solver relies on, each the contract of a function that does nothing.
 
-ghost use Rattle.std.specs.Prelude.{◌≡◌, ◌≤◌, ◌↔◌, List, ℕ, length};
-ghost use Rattle.std.specs.Slice.{pointwise};
+ghost use Rattle.std.specs.Prelude.{◌≡◌, ◌≤◌, ◌↔◌, List, ℕ, length, nat_eq};
+ghost use Rattle.std.specs.Cmp.Lexicographic.{pointwise};
 ghost use Rattle.game_rules.specs.declared.RuleParts.{RuleParts};
 ghost use Rattle.game_rules.specs.Conflicts.{IsPlayable};
 ghost use Rattle.game_rules.specs.Board.{Board};
@@ -25,5 +25,5 @@ pub fn keys_are_short()
 /// Every win has a step that comes nearer to it. So a search of the space that is exhausted leaves no win.
 pub fn the_plain_space_is_complete()
     ensures { (rules : RuleParts) (start : Board) → IsPlayable rules → Belongs rules start
-        → IsComplete (game_of (play_of rules) same_bytes) (Wins rules) start }
+        → IsComplete (game_of (play_of rules) (pointwise nat_eq)) (Wins rules) start }
 {}

@@ -1,11 +1,12 @@
 //! The space with every legal move.
-ghost use Rattle.std.specs.Prelude.{◌≡◌, ℕ};
+ghost use Rattle.std.specs.Prelude.{◌≡◌, ℕ, nat_eq};
 ghost use Rattle.game_rules.specs.Belonging.{Belongs};
 ghost use Rattle.game_rules.specs.Winning.{Wins};
 ghost use Rattle.packed_state.specs.Packed.{board_of};
 ghost use Rattle.trails.specs.Complete.{IsComplete};
 ghost use Rattle.dfs_core.specs.Play.{game_of};
-ghost use Rattle.search_space.specs.Plain.{play_of};
+ghost use Rattle.std.specs.Cmp.Lexicographic.{pointwise};
+ghost use Rattle.search_space.specs.Plain.{play_of, before_of};
 
 use crate::BoardKey;
 use dfs_core::Space;
@@ -33,7 +34,7 @@ impl<'a> Model for PlainSpace<'a> {
 
     ghost view = { λ s. record { rules = s.rules.now; packed = s.packed } };
 
-    ghost invariant = { λ s. Belongs s.rules.now (board_of s.packed) };
+    ghost invariant = { λ s. IsPlayable s.rules.now × Belongs s.rules.now (board_of s.packed) };
 }
 
 impl<'a> PlainSpace<'a> {
@@ -42,7 +43,9 @@ impl<'a> PlainSpace<'a> {
         requires { Belongs rules.now start.now }
         ensures rules { result.rules ≡ rules.now }
         ensures stands { board_of result.packed ≡ start.now }
+        ensures complete { IsComplete (game_of (play_of rules.now) (pointwise nat_eq)) (Wins rules.now) start.now }
     {
+        let _ = rules.parts();
         PlainSpace {
             rules,
             packed: Packed::from_board(rules, start),

@@ -1,37 +1,122 @@
--- The verdict, from what exploring the start answered.
-use Rattle.std.proofs.Common.{◌≡◌, ℕ, ◌+◌, ◌≤◌, sym, ap, ◌∙◌, subst, List, [], ◌++◌, length, arith}
-use Rattle.trails.specs.Trails.{end}
+-- The verdict, from what the search answered: a walk by equal keys is a walk by equal boards.
+use Rattle.std.proofs.Common.{◌≡◌, ℕ, ◌+◌, ◌<◌, ◌≤◌, Bool, true, refl, sym, ◌∙◌, subst, ⊎_elim, List, [], ◌∷◌, ◌++◌, length, length-append, min, arith, Contains}
+use Rattle.std.proofs.lemmas.List.Elements.{Contains-push_cases}
+use Rattle.trails.specs.Trails.{end, IsTrail, IsClean}
+use Rattle.trails.specs.Walks.{Follows, IsWalk, IsClosed}
+use Rattle.trails.specs.Fresh.{IsFresh, IsCover}
+use Rattle.trails.specs.Order.{IsAlike}
+use Rattle.trails.proofs.Lists.{empty_of}
+use Rattle.trails.proofs.Laws.{clean_in}
+use Rattle.trails.proofs.FirstEnds.{each_follows, longer_cover}
+use Rattle.dfs_core.specs.Play.{game_of}
+use Rattle.dfs_core.specs.Answer.{IsAnswer}
+use Rattle.dfs_core.specs.declared.trail.Found.TheVariants as found
+use Rattle.dfs_core.proofs.Agree.{Agree, walk_there, next_there, closed_there, clean_there, fresh_there}
 use Rattle.game_rules.specs.declared.RuleParts.{RuleParts}
 use Rattle.game_rules.specs.declared.Move.{Move}
 use Rattle.game_rules.specs.Board.{Board}
-use Rattle.game_rules.specs.Winning.{Line}
-use Rattle.solve_job.specs.Verdicts.{plain_game, AreTrails, AreAllTrails, IsWinnable, IsUnwinnable}
-use Rattle.solve_job.specs.Explored.{HasWon, HasExhausted}
-use Rattle.solve_job.proofs.SoFar.{none_wins}
+use Rattle.game_rules.specs.Play.{after}
+use Rattle.game_rules.specs.Order.{legal_moves}
+use Rattle.game_rules.specs.Winning.{is_won, Won, Wins, Line}
+use Rattle.search_space.specs.Keys.{key_of}
+use Rattle.search_space.specs.Plain.{play_of}
+use Rattle.solve_job.specs.Verdicts.{plain_game, IsSearched, IsWinnable, IsUnwinnable, IsUndecided}
 use Rattle.solve_job.proofs.Lines.{line_of_trail, not_winnable}
 
-module _ (rules : RuleParts) (start : Board) (limit spent spent' nodes : ℕ) (line line' : List Move) (fresh : spent ≡ 0) (empty : line ≡ [])
-    (counted : nodes ≡ spent') (within : nodes ≤ limit) where
-  pub winnable_from : HasWon (plain_game rules) start spent spent' line line' → IsWinnable rules start limit line' nodes
-  winnable_from h =
-      let same : line' ≡ h.trail = h.goes_on ∙ ap (λ xs. xs ++ h.trail) empty in
-      let count : h.nodes ≡ nodes = omega (arith, fresh, counted, h.spending) in
-      let long = ap (λ xs. length xs) same in
-      record {
-        end = end (plain_game rules) start h.trail;
-        legal = subst (λ xs. Line rules start xs (end (plain_game rules) start h.trail)) (sym same) (line_of_trail rules start h.trail h.wins.0);
-        won = h.wins.1;
-        on_the_line = omega (arith, long, count, h.on_the_line);
-        expanded = subst (AreTrails (plain_game rules) start) count h.expanded;
-        within = within;
-      }
+-- boards are the same as themselves alone
+alike : (rules : RuleParts) → IsAlike (plain_game rules)
+alike rules = record {
+  itself = λ s. refl;
+  back = λ s t e. sym e;
+  through = λ s t u e f. e ∙ f;
+}
 
-  pub unwinnable_from : HasExhausted (plain_game rules) start spent spent' line line' → IsUnwinnable rules start limit nodes
-  unwinnable_from h =
-      let count : h.nodes ≡ nodes = omega (arith, fresh, counted, h.spending) in
+module _ (rules : RuleParts) (eq : List ℕ → List ℕ → Bool) (start : Board) (cache limit spent : ℕ)
+    (agree : Agree (legal_moves rules) (after rules) (λ b. is_won rules b ≡ true) (Won rules) (λ a b. eq (key_of a) (key_of b) ≡ true) (λ a b. a ≡ b) start)
+    (within : spent ≤ limit) where
+  module _ (walk : List (List Move)) (is_walk : IsWalk (game_of (play_of rules) eq) start walk) where
+    trail_in : (l : List Move) → Contains walk l → IsTrail (game_of (play_of rules) eq) start l
+    trail_in l c = (clean_in (game_of (play_of rules) eq) start walk is_walk l c).steps
+
+    plain_walk : IsWalk (plain_game rules) start walk
+    plain_walk = walk_there (legal_moves rules) (after rules) (λ b. is_won rules b ≡ true) (Won rules)
+        (λ a b. eq (key_of a) (key_of b) ≡ true) (λ a b. a ≡ b) start agree walk is_walk
+
+    searched : IsFresh (game_of (play_of rules) eq) cache start walk → 0 + length walk ≡ spent → IsSearched rules start cache limit spent walk
+    searched fresh count = record {
+      is_walk = plain_walk;
+      fresh = fresh_there (legal_moves rules) (after rules) (λ b. is_won rules b ≡ true) (Won rules)
+          (λ a b. eq (key_of a) (key_of b) ≡ true) (λ a b. a ≡ b) start agree cache walk trail_in fresh;
+      count = omega (arith, count);
+      within = within;
+    }
+
+    followed : (z : List Move) → Follows (game_of (play_of rules) eq) start walk z → Follows (plain_game rules) start walk z
+    followed z follows = next_there (legal_moves rules) (after rules) (λ b. is_won rules b ≡ true) (Won rules)
+        (λ a b. eq (key_of a) (key_of b) ≡ true) (λ a b. a ≡ b) start agree walk z is_walk follows
+
+    -- a clean trail that follows the walk, and the two together fresh
+    module _ (z : List Move) (is_clean : IsClean (game_of (play_of rules) eq) start z) (follows : Follows (game_of (play_of rules) eq) start walk z)
+        (is_fresh : IsFresh (game_of (play_of rules) eq) cache start (walk ++ z ∷ [])) where
+      clean_z : IsClean (plain_game rules) start z
+      clean_z = clean_there (legal_moves rules) (after rules) (λ b. is_won rules b ≡ true) (Won rules)
+          (λ a b. eq (key_of a) (key_of b) ≡ true) (λ a b. a ≡ b) start agree z is_clean
+
+      fresh_z : IsFresh (plain_game rules) cache start (walk ++ z ∷ [])
+      fresh_z = fresh_there (legal_moves rules) (after rules) (λ b. is_won rules b ≡ true) (Won rules)
+          (λ a b. eq (key_of a) (key_of b) ≡ true) (λ a b. a ≡ b) start agree cache (walk ++ z ∷ [])
+          (λ l listed. ⊎_elim (λ old. trail_in l old) (λ new. subst (IsTrail (game_of (play_of rules) eq) start) new is_clean.steps)
+          (Contains-push_cases walk z l listed)) is_fresh
+
+      covers : (boards : List Board) → IsCover (plain_game rules) start boards → min (length walk) cache < length boards
+      covers boards cover =
+          let le = longer_cover (plain_game rules) start (alike rules) cache (walk ++ z ∷ [])
+          (each_follows (plain_game rules) start walk z plain_walk (followed z follows)) fresh_z boards
+          (λ l listed. ⊎_elim (λ old. clean_in (plain_game rules) start walk plain_walk l old) (λ new. subst (IsClean (plain_game rules) start) new clean_z)
+          (Contains-push_cases walk z l listed)) cover in
+          omega (arith, le, length-append walk (z ∷ []))
+
+  pub winnable : (trail : List Move) → IsAnswer (game_of (play_of rules) eq) start cache 0 spent limit (found.Won trail)
+      → IsWinnable rules start cache limit trail spent
+  winnable trail answer = record {
+    end = end (game_of (play_of rules) eq) start trail;
+    legal = line_of_trail rules (λ b. is_won rules b ≡ true) (λ a b. eq (key_of a) (key_of b) ≡ true) start trail answer.ends.1;
+    won = answer.ends.2;
+    walk = answer.walk;
+    searched = searched answer.walk answer.is_walk answer.fresh answer.count;
+    follows = followed answer.walk answer.is_walk trail answer.ends.0;
+  }
+
+  pub unwinnable : IsAnswer (game_of (play_of rules) eq) start cache 0 spent limit found.Exhausted → ((n : ℕ) → ¬ Wins rules n start)
+      → IsUnwinnable rules start cache limit spent
+  unwinnable answer never =
+      let closed : IsClosed (plain_game rules) start answer.walk = closed_there (legal_moves rules) (after rules) (λ b. is_won rules b ≡ true) (Won rules)
+      (λ a b. eq (key_of a) (key_of b) ≡ true) (λ a b. a ≡ b) start agree answer.walk answer.is_walk answer.ends in
       record {
-        never = not_winnable rules start (none_wins (plain_game rules) start h.nodes h.expanded);
-        expanded = subst (AreAllTrails (plain_game rules) start) count h.expanded;
-        some_node = omega (arith, count, h.some_node);
-        within = within;
+        never = not_winnable rules start never;
+        walk = answer.walk;
+        searched = searched answer.walk answer.is_walk answer.fresh answer.count;
+        closed = closed;
+        some_node = some_node answer.walk answer.count closed;
+      }
+    where
+      some_node : (walk : List (List Move)) → 0 + length walk ≡ spent → IsClosed (plain_game rules) start walk → 1 ≤ spent
+      some_node [] count closed = absurd (closed.not_empty refl)
+      some_node (l ∷ walk) count closed = omega (arith, count)
+
+  pub undecided : IsAnswer (game_of (play_of rules) eq) start cache 0 spent limit found.SpentAll → IsUndecided rules start cache limit spent
+  undecided answer =
+      let z : List Move = answer.ends.1 in
+      record {
+        spent = answer.ends.0;
+        walk = answer.walk;
+        searched = searched answer.walk answer.is_walk answer.fresh answer.count;
+        further = z;
+        clean = clean_z answer.walk answer.is_walk z answer.ends.2 answer.ends.3 answer.ends.4;
+        follows = followed answer.walk answer.is_walk z answer.ends.3;
+        fresh = fresh_z answer.walk answer.is_walk z answer.ends.2 answer.ends.3 answer.ends.4;
+        covers = λ boards cover.
+            let longer = covers answer.walk answer.is_walk z answer.ends.2 answer.ends.3 answer.ends.4 boards cover in
+            let count = answer.count in
+            omega (arith, longer, count);
       }

@@ -1,37 +1,46 @@
-//! The solver: a depth-first search that tries every legal move and remembers no board.
+//! The solver: a depth-first search over every legal move, with a memo of a stated size.
 //!
-//! Means: a verdict speaks of one start under its rules. `Limits` are what a search may spend.
+//! Means: a verdict speaks of one start under its rules. `Limits` are what a search may spend and remember.
 //! Above: `solve` answers winnable with a line of legal moves to a won board, unwinnable only where no
-//! such line of any length exists, and undecided only where all nodes are spent.
+//! such line of any length exists, and undecided only where all nodes are spent. A walk stands behind each.
 //! Refuses: for want of memory alone.
-//! Not promised: speed, that a line is short, and that no board is expanded twice along two lines.
+//! Not promised: speed, that a line is short, and how many nodes are spent once the memo forgot a board.
 #![tactic(auto)]
 
-mod built;
-mod explore;
 #[cfg(test)]
 mod tests;
 
-ghost use Rattle.std.specs.Prelude.{◌≡◌, ◌≤◌, IsTrue, IfOk};
+ghost use Rattle.std.specs.Prelude.{◌≡◌, ◌≤◌, IfOk, min};
 ghost use Rattle.game_rules.specs.Belonging.{Belongs};
-ghost use Rattle.solve_job.specs.Built.{is_built};
-ghost use Rattle.solve_job.specs.Verdicts.{IsVerdict};
+ghost use Rattle.solve_job.specs.Verdicts.{IsVerdict, IsDecided, IsSmall};
 
-pub use built::is_built;
 use card_piles::NoMemory;
-use explore::{Outcome, explore};
+use dfs_core::{Found, search};
 use game_model::{Board, Rules};
-use item_list::Items;
+use game_rules::Move;
 use legal_moves::Line;
 use line_printer::Verdict;
 use node_budget::Budget;
-use std::alloc::Global;
+use search_space::PlainSpace;
+use std::alloc::{AllocError, Global};
+use transposition::LruMemo;
 
-/// What a search may spend.
+/// What a search may spend and remember.
 #[derive(Clone, Copy, Debug, PartialEq, Eq)]
 pub struct Limits {
+    /// How many finished boards are remembered. The boards of the current line are remembered beside them.
+    pub cache: u32,
     /// How many boards may be expanded.
     pub nodes: u64,
+}
+
+/// The line of these moves.
+fn line_of(alloc: Global, moves: &[Move]) -> Result<Line, AllocError>
+    ensures { IfOk result (λ line. line ≡ moves.now) }
+{
+    let mut items = Vec::new(alloc);
+    items.extend_from_slice(moves)?;
+    Ok(Line::from_vec(items))
 }
 
 /// Searches for a line to a won board.
@@ -42,26 +51,35 @@ pub fn solve(
     limits: &Limits,
 ) -> Result<Verdict, NoMemory>
     requires belongs { Belongs rules.now start.now }
-    requires built { IsTrue (is_built rules.now) }
+    requires some_cache { 1 ≤ limits.now.cache }
     requires some_nodes { 1 ≤ limits.now.nodes }
-    ensures verdict { IfOk result (IsVerdict rules.now start.now limits.now.nodes) }
+    ensures verdict { IfOk result (IsVerdict rules.now start.now limits.now.cache limits.now.nodes) }
+
+    // Where so few boards cover the game, the verdict is not undecided.
+    ensures decides { IsSmall rules.now start.now (min limits.now.nodes limits.now.cache) → IfOk result IsDecided }
 {
-    let mut line = Items::new(alloc);
+    let _ = rules.parts();
+    let mut space = PlainSpace::new(rules, start);
     let mut budget = Budget::new(limits.nodes);
-    let outcome = explore(alloc, rules, start, &mut line, &mut budget)?;
+    let Ok(memo) = LruMemo::new(alloc, limits.cache) else {
+        return Err(NoMemory);
+    };
+    let Ok(found) = search(alloc, &mut space, memo, &mut budget) else {
+        return Err(NoMemory);
+    };
     let nodes = budget.spent();
     let narrow_nodes = 0;
-    match outcome {
-        Outcome::Won => Ok(Verdict::Winnable {
-            line: Line::from_vec(line.into_vec()),
+    match found {
+        Found::Won(trail) => Ok(Verdict::Winnable {
+            line: line_of(alloc, trail.items())?,
             nodes,
             narrow_nodes,
         }),
-        Outcome::Exhausted => Ok(Verdict::Unwinnable {
+        Found::Exhausted => Ok(Verdict::Unwinnable {
             nodes,
             narrow_nodes,
         }),
-        Outcome::SpentAll => Ok(Verdict::Undecided {
+        Found::SpentAll => Ok(Verdict::Undecided {
             nodes,
             narrow_nodes,
         }),

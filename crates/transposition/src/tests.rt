@@ -19,3 +19,24 @@ fn one_finished_key_is_kept(rt: HostRuntime) -> Result<(), Fail> {
     assert_eq!(rt; memo.look(&b), Known::Finished);
     Ok(())
 }
+
+#[test]
+fn a_long_line_is_entered_and_left(rt: HostRuntime) -> Result<(), Fail> {
+    let length: u32 = 10_000;
+    let mut memo = LruMemo::new(rt.alloc(), length)?;
+    for key in 0..length {
+        memo.make_room()?;
+        assert_eq!(rt; memo.look(&key), Known::New);
+        memo.enter(key);
+    }
+    for key in 0..length {
+        assert_eq!(rt; memo.look(&key), Known::Live);
+    }
+    for left in 0..length {
+        let key = length - 1 - left;
+        assert_eq!(rt; memo.look(&key), Known::Live);
+        memo.leave()?;
+        assert_eq!(rt; memo.look(&key), Known::Finished);
+    }
+    Ok(())
+}

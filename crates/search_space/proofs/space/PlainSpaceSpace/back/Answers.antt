@@ -1,0 +1,10 @@
+use Rattle.std.proofs.Common.{sym, subst}
+use Rattle.std.specs.Prelude.{IsSome}
+use Rattle.search_space.specs.Plain.{Standing, before_of}
+use Rattle.search_space.proofs.Returning.{belongs-before}
+use Rattle.search_space.proofs.space.PlainSpaceSpace.back.Goals as goal
+
+pub invariant_of-self : goal.invariant_of-self
+invariant_of-self c =
+    let some = subst (λ (s : Standing). IsSome (before_of c.args.undo s)) (sym c.self.view_is) c.requires in
+    (c.self.invariant.0, belongs-before c.self.inside.rules.now c.args.undo c.self.inside.packed c.back.new.self c.self.invariant.0 some c.back.ensures)
