@@ -4,12 +4,13 @@ use Rattle.std.proofs.lemmas.List.Elements.{Contains-push_cases}
 use Rattle.trails.specs.Trails.{end, IsTrail, IsClean}
 use Rattle.trails.specs.Walks.{Follows, IsWalk, IsClosed}
 use Rattle.trails.specs.Fresh.{IsFresh, IsCover}
+use Rattle.trails.specs.Complete.{IsComplete}
 use Rattle.trails.specs.Order.{IsAlike}
-use Rattle.trails.proofs.Lists.{empty_of}
 use Rattle.trails.proofs.Laws.{clean_in}
 use Rattle.trails.proofs.FirstEnds.{each_follows, longer_cover}
 use Rattle.dfs_core.specs.Play.{game_of}
 use Rattle.dfs_core.specs.Answer.{IsAnswer}
+use Rattle.dfs_core.specs.declared.trail.Found.{Found}
 use Rattle.dfs_core.specs.declared.trail.Found.TheVariants as found
 use Rattle.dfs_core.proofs.Agree.{Agree, walk_there, next_there, closed_there, clean_there, fresh_there}
 use Rattle.game_rules.specs.declared.RuleParts.{RuleParts}
@@ -17,10 +18,10 @@ use Rattle.game_rules.specs.declared.Move.{Move}
 use Rattle.game_rules.specs.Board.{Board}
 use Rattle.game_rules.specs.Play.{after}
 use Rattle.game_rules.specs.Order.{legal_moves}
-use Rattle.game_rules.specs.Winning.{is_won, Won, Wins, Line}
+use Rattle.game_rules.specs.Winning.{is_won, Won, Wins}
 use Rattle.search_space.specs.Keys.{key_of}
 use Rattle.search_space.specs.Plain.{play_of}
-use Rattle.solve_job.specs.Verdicts.{plain_game, IsSearched, IsWinnable, IsUnwinnable, IsUndecided}
+use Rattle.solve_job.specs.Verdicts.{plain_game, IsSearched, IsWinnable, IsUnwinnable, IsUndecided, IsSmall}
 use Rattle.solve_job.proofs.Lines.{line_of_trail, not_winnable}
 
 -- boards are the same as themselves alone
@@ -120,3 +121,34 @@ module _ (rules : RuleParts) (eq : List ℕ → List ℕ → Bool) (start : Boar
             let count = answer.count in
             omega (arith, longer, count);
       }
+
+-- the search's answer about a space is one about the start
+pub answer_of : (rules rules' : RuleParts) (eq : List ℕ → List ℕ → Bool) (start start' : Board) (cache cache' before limit limit' nodes spent : ℕ) (answer answer' : Found Move)
+    → rules' ≡ rules → start' ≡ start → cache' ≡ cache → before ≡ 0 → nodes ≡ spent → limit' ≡ limit → answer' ≡ answer
+    → IsAnswer (game_of (play_of rules') eq) start' cache' before spent limit' answer' → IsAnswer (game_of (play_of rules) eq) start cache 0 nodes limit answer
+answer_of rules rules' eq start start' cache cache' before limit limit' nodes spent answer answer' e1 e2 e3 e4 e5 e6 e7 h =
+    subst (λ r. IsAnswer (game_of (play_of r) eq) start cache 0 nodes limit answer) e1
+    (subst (λ s. IsAnswer (game_of (play_of rules') eq) s cache 0 nodes limit answer) e2
+    (subst (λ c. IsAnswer (game_of (play_of rules') eq) start' c 0 nodes limit answer) e3
+    (subst (λ b. IsAnswer (game_of (play_of rules') eq) start' cache' b nodes limit answer) e4
+    (subst (λ n. IsAnswer (game_of (play_of rules') eq) start' cache' before n limit answer) (sym e5)
+    (subst (λ l. IsAnswer (game_of (play_of rules') eq) start' cache' before spent l answer) e6
+    (subst (λ a. IsAnswer (game_of (play_of rules') eq) start' cache' before spent limit' a) e7 h))))))
+
+-- where so few boards cover the game, there is a verdict
+pub not_small : (rules : RuleParts) (start : Board) (cache limit nodes : ℕ) → IsUndecided rules start cache limit nodes → ¬ IsSmall rules start (min limit cache)
+not_small rules start cache limit nodes h small =
+    let longer = h.covers small.boards small.covers in
+    let few = small.few in
+    let spent = h.spent in
+    omega (arith, longer, few, spent)
+
+-- where the search leaves no win in a complete space, the start does not win
+pub never_wins : (rules rules' : RuleParts) (eq : List ℕ → List ℕ → Bool) (start start' : Board) → rules' ≡ rules → start' ≡ start
+    → IsComplete (game_of (play_of rules) eq) (Wins rules) start
+    → (IsComplete (game_of (play_of rules') eq) (Wins rules') start' → (n : ℕ) → ¬ Wins rules' n start') → (n : ℕ) → ¬ Wins rules n start
+never_wins rules rules' eq start start' e1 e2 complete no_win n wins =
+    no_win
+    (subst (λ r. IsComplete (game_of (play_of r) eq) (Wins r) start') (sym e1) (subst (λ s. IsComplete (game_of (play_of rules) eq) (Wins rules) s) (sym e2) complete))
+    n
+    (subst (λ r. Wins r n start') (sym e1) (subst (λ s. Wins rules n s) (sym e2) wins))

@@ -1,5 +1,5 @@
 -- Trails of legal moves are lines of legal moves.
-use Rattle.std.proofs.Common.{◌≡◌, ℕ, List, [], ◌∷◌, refl}
+use Rattle.std.proofs.Common.{ℕ, List, [], ◌∷◌, refl}
 use Rattle.trails.specs.Game.{Game}
 use Rattle.trails.specs.Trails.{end, IsTrail}
 use Rattle.game_rules.specs.declared.RuleParts.{RuleParts}

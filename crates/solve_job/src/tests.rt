@@ -215,8 +215,7 @@ fn a_cell_frees_the_card_below(rt: HostRuntime) -> Result<(), Fail> {
     let rules = Rules::new(parts)?;
     let piles: [&[u8]; 1] = [b"1C2C"];
     let start = board(rt.alloc(), &rules, &piles, &[0, 2, 2, 2], b"")?;
-    let text =
-        b"winnable\nnodes 3\nnarrow 0\nmoves 3\nt0 c0\nt0 f0\nc0 f0\n".as_slice();
+    let text = b"winnable\nnodes 3\nnarrow 0\nmoves 3\nt0 c0\nt0 f0\nc0 f0\n".as_slice();
     assert!(rt; prints(rt.alloc(), &rules, &start, 100_000, 1_000_000, text)?);
     Ok(())
 }
