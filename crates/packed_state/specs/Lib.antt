@@ -2,3 +2,4 @@ pub mod Noting
 pub mod Packed
 pub mod Spots
 pub mod Undoing
+pub mod Sources

@@ -55,8 +55,7 @@ impl Packed {
         ensures ok { OnOk result (out.new.items ≡ out.old.items ++ legal_moves rules.now (board_of self.now)) }
         ensures err { OnErr result (out.new.items ≡ out.old.items) }
     {
-        let board = self.to_board(alloc, rules)?;
-        legal_moves::list_moves(alloc, rules, &board, out)
+        self.board.list_moves(rules, out)
     }
 
     /// Makes the move, and tells what it changed.

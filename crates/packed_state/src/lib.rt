@@ -13,6 +13,7 @@ mod changing;
 mod dealing;
 mod going;
 mod legal;
+mod listing;
 mod packing;
 #[cfg(test)]
 mod profiles;
@@ -50,6 +51,32 @@ pub enum Spot {
     Hole,
     /// A slot of the rows, counted through one row after the other.
     Slot(u8),
+}
+
+/// A kind of places that are numbered.
+#[derive(Clone, Copy)]
+enum Kind {
+    Piles,
+    Cells,
+    Entries,
+    Foundations,
+    Slots,
+}
+
+/// A place that cards are taken from, and how many it gives at most.
+#[derive(Clone, Copy)]
+struct Source {
+    place: Place,
+    most: u8,
+}
+
+impl Default for Source {
+    fn default() -> Source {
+        Source {
+            place: Place::Waste,
+            most: 0,
+        }
+    }
 }
 
 /// A card that stands in a fixed list.

@@ -9,20 +9,18 @@ use Rattle.game_rules.specs.Play.{after}
 use Rattle.game_rules.specs.Order.{legal_moves}
 use Rattle.game_rules.specs.Winning.{is_won, Won}
 use Rattle.game_rules.specs.Belonging.{Belongs}
-use Rattle.game_rules.specs.Position.{HasRanks}
 use Rattle.dfs_core.proofs.Agree.{Agree}
 use Rattle.search_space.specs.Keys.{key_of}
 use Rattle.search_space.proofs.Reached.{reached-belongs}
 use Rattle.search_space.proofs.Complete.{equal-by_keys}
 
-module _ (apart : (a b : Board) → HasRanks a → HasRanks b → key_of a ≡ key_of b → a ≡ b) where
-  pub agrees : (rules : RuleParts) (start : Board) → IsPlayable rules → Belongs rules start
-      → Agree (legal_moves rules) (after rules) (λ b. is_won rules b ≡ true) (Won rules)
-      (λ a b. pointwise nat_eq (key_of a) (key_of b) ≡ true) (λ a b. a ≡ b) start
-  agrees rules start playable belongs =
-      let is = reached-belongs rules (λ s. is_won rules s ≡ true) (λ s t. pointwise nat_eq (key_of s) (key_of t) ≡ true) playable start in
-      record {
-        wins = λ s reached won. won;
-        same = λ s t reached reached' same. equal-by_keys apart rules s t playable (is s belongs reached) (is t belongs reached') same;
-        same' = λ s t reached reached' same. (bytes_decides (key_of s) (key_of t)).1 (ap key_of same);
-      }
+pub agrees : (rules : RuleParts) (start : Board) → IsPlayable rules → Belongs rules start
+    → Agree (legal_moves rules) (after rules) (λ b. is_won rules b ≡ true) (Won rules)
+    (λ a b. pointwise nat_eq (key_of a) (key_of b) ≡ true) (λ a b. a ≡ b) start
+agrees rules start playable belongs =
+    let is = reached-belongs rules (λ s. is_won rules s ≡ true) (λ s t. pointwise nat_eq (key_of s) (key_of t) ≡ true) playable start in
+    record {
+      wins = λ s reached won. won;
+      same = λ s t reached reached' same. equal-by_keys rules s t playable (is s belongs reached) (is t belongs reached') same;
+      same' = λ s t reached reached' same. (bytes_decides (key_of s) (key_of t)).1 (ap key_of same);
+    }

@@ -99,7 +99,8 @@ impl BoardKey {
     /// Puts how many cards a part has, and then the cards.
     fn put_counted(&mut self, packed: &Packed, spot: Spot)
         requires { length self.old + length (cards_in (is_stacked packed.now) (board_of packed.now) spot) < 240 }
-        ensures { self.new ≡ self.old ++ counted (map entry_byte (cards_in (is_stacked packed.now) (board_of packed.now) spot)) }
+        ensures { let cards = cards_in (is_stacked packed.now) (board_of packed.now) spot
+            in self.new ≡ self.old ++ counted (map entry_byte cards) }
     {
         self.put(packed.size(spot));
         self.put_cards(packed, spot);
@@ -108,7 +109,8 @@ impl BoardKey {
     /// Puts how many entries of a kind there are, and then the entries.
     fn put_entries(&mut self, packed: &Packed, kind: Kind, count: u8)
         requires all { count ≡ length (entries_in (board_of packed.now) kind) }
-        requires single { (i : ℕ) → card_at (is_stacked packed.now) (board_of packed.now) (spot_in kind i) 0 ≡ entry_at (entries_in (board_of packed.now) kind) i }
+        requires single { let board = board_of packed.now in (i : ℕ)
+            → card_at (is_stacked packed.now) board (spot_in kind i) 0 ≡ entry_at (entries_in board kind) i }
         requires room { length self.old + count < 240 }
         ensures { self.new ≡ self.old ++ counted (map entry_byte (entries_in (board_of packed.now) kind)) }
     {

@@ -1,16 +1,17 @@
 //! What the solver relies on, each the contract of a function that does nothing.
 
-ghost use Rattle.std.specs.Prelude.{◌≡◌, ◌≤◌, ◌↔◌, List, ℕ, length, nat_eq};
+ghost use Rattle.std.specs.Prelude.{◌≡◌, ◌≤◌, ◌↔◌, List, ℕ, length, true, nat_eq};
 ghost use Rattle.std.specs.Cmp.Lexicographic.{pointwise};
 ghost use Rattle.game_rules.specs.declared.RuleParts.{RuleParts};
 ghost use Rattle.game_rules.specs.Conflicts.{IsPlayable};
 ghost use Rattle.game_rules.specs.Board.{Board};
 ghost use Rattle.game_rules.specs.Belonging.{Belongs};
+ghost use Rattle.search_space.specs.Keys.{key_of};
 ghost use Rattle.game_rules.specs.Winning.{Wins};
 ghost use Rattle.trails.specs.Complete.{IsComplete};
 ghost use Rattle.dfs_core.specs.Play.{game_of};
-ghost use Rattle.search_space.specs.Keys.{key_of};
 ghost use Rattle.search_space.specs.Plain.{play_of};
+ghost use Rattle.search_space.specs.Well.{is_well};
 
 /// Boards of the same rules have equal keys exactly where they are equal.
 pub fn keys_are_equal_where_boards_are()
@@ -26,4 +27,9 @@ pub fn keys_are_short()
 pub fn the_plain_space_is_complete()
     ensures { (rules : RuleParts) (start : Board) → IsPlayable rules → Belongs rules start
         → IsComplete (game_of (play_of rules) (pointwise nat_eq)) (Wins rules) start }
+{}
+
+/// The test of a board passes exactly where the board belongs to the rules. So no step is one that cannot be taken back.
+pub fn well_boards_belong()
+    ensures { (rules : RuleParts) (board : Board) → IsPlayable rules → (is_well rules board ≡ true) ↔ Belongs rules board }
 {}

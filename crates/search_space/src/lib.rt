@@ -11,6 +11,8 @@ mod key;
 pub mod laws;
 mod space;
 #[cfg(test)]
+mod space_tests;
+#[cfg(test)]
 mod tests;
 
 pub use key::BoardKey;

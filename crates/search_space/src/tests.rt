@@ -210,12 +210,21 @@ fn a_stacked_reserve_is_read_to_its_top(rt: HostRuntime) -> Result<(), Fail> {
         0, 0, 0, 0,
     ];
     assert!(rt; key.bytes() == bytes.as_slice());
-    let one = key_of(
-        rt.alloc(),
-        &rules,
-        "pile AC 2C 3C 2H pile AD 2D 3D 3H reserve AH stock AS 2S waste 3S",
-    )?;
-    assert!(rt; one.bytes()[17..19] == [1, 27]);
+    Ok(())
+}
+
+#[test]
+fn a_stacked_reserve_of_one_card_is_read(rt: HostRuntime) -> Result<(), Fail> {
+    let mut parts = small_parts();
+    parts.stacked = true;
+    let rules = Rules::new(parts)?;
+    let text = "pile AC 2C 3C 2H pile AD 2D 3D 3H reserve AH stock AS 2S waste 3S";
+    let key = key_of(rt.alloc(), &rules, text)?;
+    let bytes = [
+        0u8, 2, 4, 0, 1, 2, 3, 28, 4, 0, 14, 15, 16, 29, 2, 0, 0, 1, 27, 2, 40, 41, 1, 42, 4, 0, 0,
+        0, 0, 0, 0,
+    ];
+    assert!(rt; key.bytes() == bytes.as_slice());
     Ok(())
 }
 

@@ -2,7 +2,6 @@ use Rattle.std.proofs.Common.{◌≤◌, ◌∙◌, refl, sym, subst}
 use Rattle.std.specs.Prelude.{nat_eq}
 use Rattle.std.specs.Cmp.Lexicographic.{pointwise}
 use Rattle.dfs_core.specs.declared.trail.Found.TheVariants as found
-use Rattle.search_space.proofs.KeysApart.{key_of-apart}
 use Rattle.search_space.proofs.Agreeing.{agrees}
 use Rattle.solve_job.specs.Verdicts.{IsWinnable, IsUndecided}
 use Rattle.solve_job.proofs.Answering.{answer_of, never_wins, winnable, unwinnable, undecided, not_small}
@@ -10,7 +9,7 @@ use Rattle.solve_job.proofs.solve.Goals as goal
 
 pub returns-in_ok-line_of-in-Won-clause-verdict : goal.returns-in_ok-line_of-in-Won-clause-verdict
 returns-in_ok-line_of-in-Won-clause-verdict c =
-    let agree = agrees key_of-apart c.args.rules.now c.args.start.now c.parts.ensures.playable c.requires.belongs in
+    let agree = agrees c.args.rules.now c.args.start.now c.parts.ensures.playable c.requires.belongs in
     let same_limit = c.in-Ok-search.ensures.limit ∙ c.new-budget.ensures.limit in
     let within = subst (λ limit. c.spent-nodes.result ≤ limit) same_limit c.spent-nodes.ensures.within in
     let answer = answer_of c.args.rules.now _ (pointwise nat_eq) c.args.start.now _ c.args.limits.now.cache _ _ c.args.limits.now.nodes _ c.spent-nodes.result _
@@ -24,7 +23,7 @@ returns-in_ok-line_of-in-Won-clause-verdict c =
 
 pub returns-in-Exhausted-clause-verdict : goal.returns-in-Exhausted-clause-verdict
 returns-in-Exhausted-clause-verdict c =
-    let agree = agrees key_of-apart c.args.rules.now c.args.start.now c.parts.ensures.playable c.requires.belongs in
+    let agree = agrees c.args.rules.now c.args.start.now c.parts.ensures.playable c.requires.belongs in
     let same_limit = c.in-Ok-search.ensures.limit ∙ c.new-budget.ensures.limit in
     let within = subst (λ limit. c.spent-nodes.result ≤ limit) same_limit c.spent-nodes.ensures.within in
     let answer = answer_of c.args.rules.now _ (pointwise nat_eq) c.args.start.now _ c.args.limits.now.cache _ _ c.args.limits.now.nodes _ c.spent-nodes.result _
@@ -37,7 +36,7 @@ returns-in-Exhausted-clause-verdict c =
 -- the nodes ran out
 undecided_here : (c : goal.In-SpentAll) → IsUndecided c.args.rules.now c.args.start.now c.args.limits.now.cache c.args.limits.now.nodes c.spent-nodes.result
 undecided_here c =
-    let agree = agrees key_of-apart c.args.rules.now c.args.start.now c.parts.ensures.playable c.requires.belongs in
+    let agree = agrees c.args.rules.now c.args.start.now c.parts.ensures.playable c.requires.belongs in
     let same_limit = c.in-Ok-search.ensures.limit ∙ c.new-budget.ensures.limit in
     let within = subst (λ limit. c.spent-nodes.result ≤ limit) same_limit c.spent-nodes.ensures.within in
     let answer = answer_of c.args.rules.now _ (pointwise nat_eq) c.args.start.now _ c.args.limits.now.cache _ _ c.args.limits.now.nodes _ c.spent-nodes.result _

@@ -1,6 +1,5 @@
-use Rattle.search_space.proofs.KeysApart.{key_of-apart}
 use Rattle.search_space.proofs.Complete.{plain-is_complete}
 use Rattle.search_space.proofs.laws.the_plain_space_is_complete.Goals as goal
 
 pub returns : goal.returns
-returns c = plain-is_complete key_of-apart
+returns c = plain-is_complete

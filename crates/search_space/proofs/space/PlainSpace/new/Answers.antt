@@ -1,6 +1,5 @@
-use Rattle.search_space.proofs.KeysApart.{key_of-apart}
 use Rattle.search_space.proofs.Complete.{plain-is_complete}
 use Rattle.search_space.proofs.space.PlainSpace.new.Goals as goal
 
 pub returns-clause-complete : goal.returns-clause-complete
-returns-clause-complete c = plain-is_complete key_of-apart c.args.rules.now c.args.start.now c.parts.ensures.playable c.requires
+returns-clause-complete c = plain-is_complete c.args.rules.now c.args.start.now c.parts.ensures.playable c.requires
