@@ -163,7 +163,7 @@ module _ (shelf : Shelved) (words : List (List ℕ)) where
       (λ x. no_both (job_of words) job.Replay fault x.has_deal.has_rules.named no_job)
       (λ x. no_both (job_of words) job.Replay fault x.has_line.has_deal.has_rules.named no_job)
       (λ x. no_both (job_of words) job.Replay fault x.has_line.has_deal.has_rules.named no_job)
-      (λ x. no_both (job_of words) (job.Solve x.nodes) fault x.has_deal.has_rules.named no_job)
+      (λ x. no_both (job_of words) (job.Solve x.cache x.nodes) fault x.has_deal.has_rules.named no_job)
       (λ x. no_both (job_of words) job.Replay fault x.has_line.has_deal.has_rules.named no_job)
       (λ x. no_both (job_of words) job.Rules fault x.has_rules.named no_job)
 
@@ -180,7 +180,7 @@ module _ (shelf : Shelved) (words : List (List ℕ)) where
       (λ x. rules_fall j job.Replay bytes fault x.rules named gives refused x.has_deal.has_rules)
       (λ x. rules_fall j job.Replay bytes fault x.rules named gives refused x.has_line.has_deal.has_rules)
       (λ x. rules_fall j job.Replay bytes fault x.rules named gives refused x.has_line.has_deal.has_rules)
-      (λ x. rules_fall j (job.Solve x.nodes) bytes fault x.rules named gives refused x.has_deal.has_rules)
+      (λ x. rules_fall j (job.Solve x.cache x.nodes) bytes fault x.rules named gives refused x.has_deal.has_rules)
       (λ x. rules_fall j job.Replay bytes fault x.rules named gives refused x.has_line.has_deal.has_rules)
       (λ x. rules_fall j job.Rules bytes fault x.rules named gives refused x.has_rules)
 
@@ -198,7 +198,7 @@ module _ (shelf : Shelved) (words : List (List ℕ)) where
       (λ x. deal_falls j job.Replay rules x.rules bytes fault x.board by gives refused x.has_deal)
       (λ x. deal_falls j job.Replay rules x.rules bytes fault x.board by gives refused x.has_line.has_deal)
       (λ x. deal_falls j job.Replay rules x.rules bytes fault x.board by gives refused x.has_line.has_deal)
-      (λ x. deal_falls j (job.Solve x.nodes) rules x.rules bytes fault x.start by gives refused x.has_deal)
+      (λ x. deal_falls j (job.Solve x.cache x.nodes) rules x.rules bytes fault x.start by gives refused x.has_deal)
       (λ x. deal_falls j job.Replay rules x.rules bytes fault x.board by gives refused x.has_line.has_deal)
       (λ x. takes_or_not j job.Rules takes refl (same_rules j job.Rules rules x.rules by x.has_rules).0)
 
@@ -220,8 +220,8 @@ module _ (shelf : Shelved) (words : List (List ℕ)) where
       bad
       illegal
       short
-      (λ x. absurd (let same : job.Replay ≡ job.Solve x.nodes =
-      (same_rules job.Replay (job.Solve x.nodes) rules x.rules gives.has_rules x.has_deal.has_rules).0 in cc))
+      (λ x. absurd (let same : job.Replay ≡ job.Solve x.cache x.nodes =
+      (same_rules job.Replay (job.Solve x.cache x.nodes) rules x.rules gives.has_rules x.has_deal.has_rules).0 in cc))
       won
       (λ x. takes_or_not job.Replay job.Rules refl refl (same_rules job.Replay job.Rules rules x.rules gives.has_rules x.has_rules).0)
 
@@ -253,25 +253,25 @@ module _ (shelf : Shelved) (words : List (List ℕ)) where
       (λ x. refl)
 
   -- a job that solves has no line
-  no_replay : {C : Type 0} (nodes : ℕ) (rules other : RuleParts) (board start : Board) → GivesDeal shelf words (job.Solve nodes) rules board
+  no_replay : {C : Type 0} (cache nodes : ℕ) (rules other : RuleParts) (board start : Board) → GivesDeal shelf words (job.Solve cache nodes) rules board
       → HasDeal shelf.files words job.Replay other start → C
-  no_replay nodes rules other board start gives has = absurd (let same : job.Solve nodes ≡ job.Replay =
-      (same_rules (job.Solve nodes) job.Replay rules other gives.has_rules has.has_rules).0 in cc)
+  no_replay cache nodes rules other board start gives has = absurd (let same : job.Solve cache nodes ≡ job.Replay =
+      (same_rules (job.Solve cache nodes) job.Replay rules other gives.has_rules has.has_rules).0 in cc)
 
   -- the deal is solved
-  solved_is : (text : List ℕ) (nodes : ℕ) (rules : RuleParts) (board : Board) → GivesDeal shelf words (job.Solve nodes) rules board
+  solved_is : (text : List ℕ) (cache nodes : ℕ) (rules : RuleParts) (board : Board) → GivesDeal shelf words (job.Solve cache nodes) rules board
       → (status : Status) → Explains shelf words status text → status ≡ Done
-  solved_is text nodes rules board gives =
+  solved_is text cache nodes rules board gives =
       by_cause (λ s. s ≡ Done) text
-      (λ x. no_both (job_of words) (job.Solve nodes) x.fault gives.has_rules.named x.names_no_job)
+      (λ x. no_both (job_of words) (job.Solve cache nodes) x.fault gives.has_rules.named x.names_no_job)
       (λ x. absurd (gives.has_rules.given.calm x.rose))
-      (λ x. rules_stand (job.Solve nodes) rules text gives.has_rules x)
+      (λ x. rules_stand (job.Solve cache nodes) rules text gives.has_rules x)
       (λ x. absurd (gives.given.calm x.rose))
-      (λ x. deal_stands (job.Solve nodes) rules board text gives x)
-      (λ x. no_replay nodes rules x.rules board x.board gives x.has_deal)
-      (λ x. no_replay nodes rules x.rules board x.board gives x.has_deal)
-      (λ x. no_replay nodes rules x.rules board x.board gives x.has_line.has_deal)
-      (λ x. no_replay nodes rules x.rules board x.board gives x.has_line.has_deal)
+      (λ x. deal_stands (job.Solve cache nodes) rules board text gives x)
+      (λ x. no_replay cache nodes rules x.rules board x.board gives x.has_deal)
+      (λ x. no_replay cache nodes rules x.rules board x.board gives x.has_deal)
+      (λ x. no_replay cache nodes rules x.rules board x.board gives x.has_line.has_deal)
+      (λ x. no_replay cache nodes rules x.rules board x.board gives x.has_line.has_deal)
       (λ x. refl)
       (λ x. refl)
       (λ x. refl)
@@ -303,6 +303,6 @@ module _ (shelf : Shelved) (words : List (List ℕ)) where
     bad_line = λ rules board bytes fault gives given refused sunk memory. bad_line_is text rules board bytes fault gives given refused status cause;
     no_win = λ rules board bytes moves gives given accepted no sunk memory. no_win_is text rules board bytes moves gives given accepted no status cause;
     win = λ rules board bytes moves gives given accepted wins sunk memory. win_is text rules board bytes moves gives given accepted wins status cause;
-    solved = λ nodes rules board gives sunk memory. solved_is text nodes rules board gives status cause;
+    solved = λ cache nodes rules board gives sunk memory. solved_is text cache nodes rules board gives status cause;
     spelled = λ rules by sunk memory. spelled_is text rules by status cause;
   }

@@ -4,4 +4,3 @@ pub mod Replay
 pub mod Follow
 pub mod Rulings
 pub mod Fetched
-pub mod JobLimits

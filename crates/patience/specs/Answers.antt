@@ -67,5 +67,5 @@ pub record Follows (shelf : Shelved) (words : List (List ℕ)) (result : Status)
       → Gives shelf (line_name words) bytes → line_of bytes ≡ Ok moves → (¬ IsReplayed rules board moves replayed.Wins) → Yields LineRefused result
   pub win : (rules : RuleParts) (board : Board) (bytes : List ℕ) (moves : List Move) → GivesDeal shelf words job.Replay rules board
       → Gives shelf (line_name words) bytes → line_of bytes ≡ Ok moves → IsReplayed rules board moves replayed.Wins → Yields Done result
-  pub solved : (nodes : ℕ) (rules : RuleParts) (board : Board) → GivesDeal shelf words (job.Solve nodes) rules board → Yields Done result
+  pub solved : (cache nodes : ℕ) (rules : RuleParts) (board : Board) → GivesDeal shelf words (job.Solve cache nodes) rules board → Yields Done result
   pub spelled : (rules : RuleParts) → GivesRules shelf words job.Rules rules → Yields Done result

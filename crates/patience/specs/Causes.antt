@@ -1,5 +1,5 @@
 -- Each status and text that the program may answer, with its cause in the words and in the files.
-use Rattle.std.specs.Prelude.{ℕ, ◌≡◌, ◌==◌, ◌&&◌, ◌⊎◌, not, IsTrue, Bool, true, false, List, [], ◌∷◌, ◌++◌, length, slice_index_or, Option, Result, Ok, Err, if◌then◌else◌}
+use Rattle.std.specs.Prelude.{ℕ, ◌≡◌, ◌==◌, ◌&&◌, ◌⊎◌, min, not, IsTrue, Bool, true, false, List, [], ◌∷◌, ◌++◌, length, slice_index_or, Option, Result, Ok, Err, if◌then◌else◌}
 use Rattle.outside_io.specs.Faults.{Rose}
 use Rattle.outside_io.specs.Shelf.{File, HasBytes}
 use Rattle.game_rules.specs.declared.RuleParts.{RuleParts}
@@ -25,8 +25,7 @@ use Rattle.line_printer.specs.LineFile.{line_of}
 use Rattle.line_printer.specs.VerdictText.{output_of}
 use Rattle.win_replay.specs.declared.Replayed.TheVariants as replayed
 use Rattle.win_replay.specs.Replays.{IsReplayed}
-use Rattle.solve_job.specs.Built.{is_built}
-use Rattle.solve_job.specs.Verdicts.{IsVerdict}
+use Rattle.solve_job.specs.Verdicts.{IsVerdict, IsDecided, IsSmall}
 use Rattle.patience.specs.declared.report.FileRole.TheVariants as role
 use Rattle.patience.specs.declared.status.Status.{Status}
 use Rattle.patience.specs.declared.status.Status.TheVariants.{Done, Usage, ShelfFailed, RulesRefused, DealRefused, LineRefused, SinkFailed, Memory}
@@ -54,18 +53,18 @@ Fails shelf name = Rose (shelf.before name) (shelf.after name)
 
 -- whether the job has a deal
 abbrev pub takes_deal : Job → Bool
-takes_deal (job.Solve nodes) = true
+takes_deal (job.Solve cache nodes) = true
 takes_deal job.Replay = true
 takes_deal job.Rules = false
 
--- whether a line of the game can be replayed: it has no stock, no sequences and no complete runs
-abbrev pub is_replayed : RuleParts → Bool
-is_replayed rules = (rules.stock == 0) && not (is_sequence_goal rules.goal) && not (takes_complete_runs rules.goal)
+-- whether the game can be solved, and a line of it replayed: it has no stock, no sequences and no complete runs
+abbrev pub is_built : RuleParts → Bool
+is_built rules = (rules.stock == 0) && not (is_sequence_goal rules.goal) && not (takes_complete_runs rules.goal)
 
 -- whether the job is built for games by these rules
 abbrev pub is_built_for : Job → RuleParts → Bool
-is_built_for (job.Solve nodes) rules = is_built rules
-is_built_for job.Replay rules = is_replayed rules
+is_built_for (job.Solve cache nodes) rules = is_built rules
+is_built_for job.Replay rules = is_built rules
 is_built_for job.Rules rules = true
 
 -- rules that were read are for the job where their game is built
@@ -183,12 +182,16 @@ pub record IsShortLine (files : Option (List File)) (words : List (List ℕ)) (t
 
 -- a verdict on the deal was printed, and it is true
 pub record IsSolved (files : Option (List File)) (words : List (List ℕ)) (text : List ℕ) : Type 0 where
+  pub cache : ℕ
   pub nodes : ℕ
   pub rules : RuleParts
   pub start : Board
-  pub has_deal : HasDeal files words (job.Solve nodes) rules start
+  pub has_deal : HasDeal files words (job.Solve cache nodes) rules start
   pub verdict : Verdict
-  pub is_true : IsVerdict rules start nodes verdict
+  pub is_true : IsVerdict rules start cache nodes verdict
+
+  -- where so few boards cover the game, the verdict is not undecided
+  pub decides : IsSmall rules start (min nodes cache) → IsDecided verdict
   pub printed : text ≡ output_of verdict
 
 -- the line of moves wins from the deal

@@ -8,7 +8,7 @@ ghost use Rattle.rules_json.specs.Faults.{rules_fault_text};
 ghost use Rattle.patience.specs.Texts.{refused_text};
 ghost use Rattle.solver_words.specs.Jobs.{job_of};
 ghost use Rattle.solver_words.specs.Texts.{texts};
-ghost use Rattle.patience.specs.Causes.{Explains, HasRules, HasDeal, HasLine, is_built_for as is_built_for_of, is_replayed as is_replayed_of, takes_deal, rules_for};
+ghost use Rattle.patience.specs.Causes.{Explains, HasRules, HasDeal, HasLine, is_built_for as is_built_for_of, is_built as is_built_of, takes_deal, rules_for};
 ghost use Rattle.patience.specs.Stages.{Stops, IsFailure, RefusesRules, RefusesDeal, RefusesLine};
 
 use crate::report::{FileRole, Stop};
@@ -64,9 +64,9 @@ fn fetch_file<S: Shelf>(
     }
 }
 
-/// Whether a line of the game can be replayed.
-fn is_replayed(rules: &Rules) -> bool
-    ensures { result ≡ is_replayed_of rules.now }
+/// Whether the game can be solved, and a line of it replayed.
+fn is_built(rules: &Rules) -> bool
+    ensures { result ≡ is_built_of rules.now }
 {
     rules.stock() == 0 && !matches!(rules.goal(), Goal::Sequences) && !rules.takes_complete_runs()
 }
@@ -76,8 +76,7 @@ fn is_built_for(job: Job, rules: &Rules) -> bool
     ensures { result ≡ is_built_for_of job rules.now }
 {
     match job {
-        Job::Solve { .. } => solve_job::is_built(rules),
-        Job::Replay => is_replayed(rules),
+        Job::Solve { .. } | Job::Replay => is_built(rules),
         Job::Rules => true,
     }
 }

@@ -22,20 +22,21 @@ use win_replay::{Replayed, replay};
 fn solve_deal<S: Shelf>(
     alloc: Global,
     words: &[String],
+    cache: u32,
     nodes: u64,
     shelf: &mut S,
 ) -> Result<Report, Stop>
-    requires { job_of (texts words.now) ≡ Ok (Job.Solve nodes) }
+    requires { job_of (texts words.now) ≡ Ok (Job.Solve cache nodes) }
     ensures never_falls { (name : List ℕ) → S.faults shelf.old name ≤ S.faults shelf.new name }
     ensures done { IfOk result (λ report. Explains
         (record { files = S.files shelf.old; before = S.faults shelf.old; after = S.faults shelf.new }) (texts words.now) report.status report.text.items) }
     ensures stopped { IfErr result (Stops (Explains
         (record { files = S.files shelf.old; before = S.faults shelf.old; after = S.faults shelf.new }) (texts words.now))) }
 {
-    let job = Job::Solve { nodes };
+    let job = Job::Solve { cache, nodes };
     let rules = fetch_rules(alloc, words, job, shelf)?;
     let start = fetch_deal(alloc, words, job, &rules, shelf)?;
-    let verdict = solve(alloc, &rules, &start, &Limits { nodes })?;
+    let verdict = solve(alloc, &rules, &start, &Limits { cache, nodes })?;
     let text = write_verdict(alloc, &verdict)?;
     Ok(Report {
         status: Status::Done,
@@ -96,7 +97,7 @@ fn do_job<S: Shelf>(
         (record { files = S.files shelf.old; before = S.faults shelf.old; after = S.faults shelf.new }) (texts words.now))) }
 {
     match job {
-        Job::Solve { nodes } => solve_deal(alloc, words, nodes, shelf),
+        Job::Solve { cache, nodes } => solve_deal(alloc, words, cache, nodes, shelf),
         Job::Replay => replay_line(alloc, words, shelf),
         Job::Rules => spell_rules(alloc, words, shelf),
     }

@@ -1,19 +1,13 @@
 -- A job has the words that name its files.
-use Rattle.std.proofs.Common.{◌≡◌, ◌+◌, ◌<◌, ◌≤◌, ℕ, List, [], ◌∷◌, length, Result, Ok, Err, Bool, true, false, cond, codes, unwrap_or, refl, ap, subst, arith}
+use Rattle.std.proofs.Common.{◌≡◌, ◌+◌, ◌<◌, ◌≤◌, ℕ, List, [], ◌∷◌, length, Result, Ok, Err, Bool, true, false, cond, codes, unwrap_or, ap, subst, arith}
 use Rattle.std.specs.Str.{bytes_eq}
 use Rattle.solver_words.specs.declared.fault.WordFault.{WordFault}
 use Rattle.solver_words.specs.declared.fault.WordFault.TheVariants.{UnknownCommand, MissingName}
 use Rattle.solver_words.specs.declared.job.Job.{Job}
 use Rattle.solver_words.specs.declared.job.Job.TheVariants.{Solve, Replay, Rules}
-use Rattle.solver_words.specs.Choice.{◌>>=◌}
+use Rattle.solver_words.proofs.Choices.{ok_before}
 use Rattle.solver_words.specs.Options.{no_options, options_from}
 use Rattle.solver_words.specs.Jobs.{is_name, after_name, no_more, solve_of, replay_of, rules_of, job_of, name_count}
-
--- Where two steps are Ok, the first was.
-ok_before : {A B : Type 0} → (first : Result A WordFault) (second : A → Result B WordFault) (last : B)
-    → (first >>= second) ≡ Ok last → (x : A) × (first ≡ Ok x) × (second x ≡ Ok last)
-ok_before (Ok x) second last h = (x, refl, h)
-ok_before (Err e) second last h = absurd (cc)
 
 length-after_name : (words rest : List (List ℕ)) → after_name words ≡ Ok rest → length rest + 1 ≡ length words
 length-after_name [] rest h = cc
@@ -30,7 +24,7 @@ length-solve_of words job h =
     let (one, is_one, h1) = ok_before (after_name words) _ job h in
     let (two, is_two, h2) = ok_before (after_name one) _ job h1 in
     let (given, is_given, h3) = ok_before (options_from 3 no_options two) _ job h2 in
-    let same : Solve (unwrap_or given.nodes 1000000) ≡ job = cc in
+    let same : Solve (unwrap_or given.cache 100000) (unwrap_or given.nodes 1000000) ≡ job = cc in
     let few : 2 ≤ length words = omega (arith, length-after_name words one is_one, length-after_name one two is_two) in
     subst (λ job. name_count job ≤ length words) same few
 

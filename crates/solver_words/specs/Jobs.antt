@@ -1,5 +1,5 @@
 -- What the command words name: a job, or the first fault.
-use Rattle.std.specs.Prelude.{ℕ, List, [], ◌∷◌, Bool, not, nat_eq, unwrap_or, Result, Ok, Err, codes, if◌then◌else◌}
+use Rattle.std.specs.Prelude.{ℕ, ◌≤◌, ⊤, List, [], ◌∷◌, Bool, not, nat_eq, unwrap_or, Result, Ok, Err, codes, if◌then◌else◌}
 use Rattle.std.specs.List.{starts_with}
 use Rattle.std.specs.Str.{bytes_eq}
 use Rattle.solver_words.specs.declared.fault.WordFault.{WordFault}
@@ -27,7 +27,7 @@ no_more at (word ∷ rest) = Err (UnknownOption at)
 abbrev pub solve_of : List (List ℕ) → Result Job WordFault
 solve_of words =
     after_name words >>= λ words. after_name words >>= λ words. options_from 3 no_options words >>= λ given.
-    Ok (job.Solve (unwrap_or given.nodes 1000000))
+    Ok (job.Solve (unwrap_or given.cache 100000) (unwrap_or given.nodes 1000000))
 
 -- after `replay`: the names of the rules, the deal and the line
 abbrev pub replay_of : List (List ℕ) → Result Job WordFault
@@ -50,6 +50,12 @@ job_of (command ∷ words) =
 
 -- how many files the job has, which the words from 1 on name
 abbrev pub name_count : Job → ℕ
-name_count (job.Solve nodes) = 2
+name_count (job.Solve cache nodes) = 2
 name_count job.Replay = 3
 name_count job.Rules = 1
+
+-- the numbers of the job are within their limits
+abbrev pub IsWithinLimits : Job → Type 0
+IsWithinLimits (job.Solve cache nodes) = (1 ≤ cache) × (cache ≤ 4000000) × (1 ≤ nodes) × (nodes ≤ 1000000000000)
+IsWithinLimits job.Replay = ⊤
+IsWithinLimits job.Rules = ⊤

@@ -4,7 +4,7 @@ use Rattle.std.specs.Str.{bytes_eq}
 use Rattle.solver_words.specs.declared.fault.WordFault.{WordFault}
 use Rattle.solver_words.specs.declared.fault.WordFault.TheVariants.{UnknownOption, RepeatedOption, MissingValue, BadOptionValue}
 use Rattle.solver_words.specs.declared.options.Kind.{Kind}
-use Rattle.solver_words.specs.declared.options.Kind.TheVariants.{Nodes}
+use Rattle.solver_words.specs.declared.options.Kind.TheVariants.{Cache, Nodes}
 use Rattle.solver_words.specs.declared.options.Options.{Options}
 use Rattle.solver_words.specs.Choice.{◌>>=◌}
 use Rattle.solver_words.specs.Numbers.{number_within}
@@ -12,15 +12,17 @@ use Rattle.solver_words.specs.Numbers.{number_within}
 -- the option that the word names
 abbrev pub kind_of : List ℕ → Option Kind
 kind_of word =
-    if bytes_eq word (codes "--nodes") then Some Nodes
-    else None
+    if bytes_eq word (codes "--cache") then Some Cache
+    else (if bytes_eq word (codes "--nodes") then Some Nodes
+    else None)
 
 -- nothing was given
 abbrev pub no_options : Options
-no_options = record { nodes = None }
+no_options = record { cache = None; nodes = None }
 
 -- the option was given
 abbrev pub is_given : Kind → Options → Bool
+is_given Cache given = is_some given.cache
 is_given Nodes given = is_some given.nodes
 
 -- the option of the word at the place: it is known, and was not given before
@@ -38,6 +40,7 @@ number_at at (Some n) = Ok n
 
 -- the options with this one too, whose value is the word at the place
 abbrev pub with_value : ℕ → Kind → Options → List ℕ → Result Options WordFault
+with_value at Cache given word = number_at at (number_within 1 4000000 word) >>= λ n. Ok (record given { cache = Some n })
 with_value at Nodes given word = number_at at (number_within 1 1000000000000 word) >>= λ n. Ok (record given { nodes = Some n })
 
 -- the options from the word at the place on, after those that were given before it

@@ -6,17 +6,21 @@ ghost use Rattle.solver_words.specs.Texts.{texts};
 use crate::WordFault;
 use crate::number::number_within;
 
+const MOST_CACHE: u64 = 4_000_000;
+
 const MOST_NODES: u64 = 1_000_000_000_000;
 
 /// An option, by its word.
 #[derive(Clone, Copy, Debug, PartialEq, Eq)]
 pub enum Kind {
+    Cache,
     Nodes,
 }
 
 /// The values that were given.
 #[derive(Clone, Copy, Debug, PartialEq, Eq)]
 pub struct Options {
+    pub cache: Option<u32>,
     pub nodes: Option<u64>,
 }
 
@@ -24,6 +28,7 @@ fn kind_named(word: &str) -> Option<Kind>
     ensures { result ≡ kind_of word.now }
 {
     match word {
+        "--cache" => Some(Kind::Cache),
         "--nodes" => Some(Kind::Nodes),
         _ => None,
     }
@@ -34,6 +39,7 @@ impl Options {
         ensures { result ≡ is_given kind self.now }
     {
         match kind {
+            Kind::Cache => self.cache.is_some(),
             Kind::Nodes => self.nodes.is_some(),
         }
     }
@@ -57,8 +63,18 @@ fn with_value(at: u32, kind: Kind, given: Options, word: &str) -> Result<Options
     ensures { result ≡ with_value_of at kind given word.now }
 {
     match kind {
+        Kind::Cache => match number_within(1, MOST_CACHE, word) {
+            Some(cache) => Ok(Options {
+                cache: Some(cache as u32),
+                ..given
+            }),
+            None => Err(WordFault::BadOptionValue(at)),
+        },
         Kind::Nodes => match number_within(1, MOST_NODES, word) {
-            Some(nodes) => Ok(Options { nodes: Some(nodes) }),
+            Some(nodes) => Ok(Options {
+                nodes: Some(nodes),
+                ..given
+            }),
             None => Err(WordFault::BadOptionValue(at)),
         },
     }
@@ -70,7 +86,10 @@ pub fn read_options(first: u32, words: &[String]) -> Result<Options, WordFault>
     ensures { result ≡ options_from first no_options (texts words.now) }
 {
     let mut at = first;
-    let mut given = Options { nodes: None };
+    let mut given = Options {
+        cache: None,
+        nodes: None,
+    };
     let mut rest = words;
     while let Some((option, more)) = rest.split_first() {
         let kind = read_kind(at, option.as_str(), &given)?;

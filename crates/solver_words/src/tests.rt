@@ -13,12 +13,19 @@ fn split(alloc: Global, line: &str) -> Result<Vec<String>, AllocError> {
 
 #[test]
 fn reads_each_command(rt: HostRuntime) -> Result<(), Fail> {
-    let solve = |nodes| Ok(Job::Solve { nodes });
+    let solve = |cache, nodes| Ok(Job::Solve { cache, nodes });
     for (line, want) in [
-        ("solve R D", solve(1_000_000)),
-        ("solve -x ", solve(1_000_000)),
-        ("solve R D --nodes 1", solve(1)),
-        ("solve R D --nodes 1000000000000", solve(1_000_000_000_000)),
+        ("solve R D", solve(100_000, 1_000_000)),
+        ("solve -x ", solve(100_000, 1_000_000)),
+        ("solve R D --nodes 1", solve(100_000, 1)),
+        (
+            "solve R D --nodes 1000000000000",
+            solve(100_000, 1_000_000_000_000),
+        ),
+        ("solve R D --cache 1", solve(1, 1_000_000)),
+        ("solve R D --cache 4000000", solve(4_000_000, 1_000_000)),
+        ("solve R D --cache 7 --nodes 5", solve(7, 5)),
+        ("solve R D --nodes 5 --cache 7", solve(7, 5)),
         ("replay R D L", Ok(Job::Replay)),
         ("rules R", Ok(Job::Rules)),
         ("rules -", Ok(Job::Rules)),
@@ -68,6 +75,41 @@ fn refuses_with_the_first_fault(rt: HostRuntime) -> Result<(), Fail> {
             WordFault::BadOptionValue(4),
         ),
         ("solve R D --nodes x --what", WordFault::BadOptionValue(4)),
+        ("solve R --cache 5", WordFault::MissingName),
+        ("solve R D --Cache 5", WordFault::UnknownOption(3)),
+        ("replay R D L --cache 5", WordFault::UnknownOption(4)),
+        ("rules R --cache 5", WordFault::UnknownOption(2)),
+        ("solve R D --cache 1 --cache", WordFault::RepeatedOption(5)),
+        (
+            "solve R D --cache 1 --cache 2",
+            WordFault::RepeatedOption(5),
+        ),
+        (
+            "solve R D --cache 1 --nodes 5 --cache",
+            WordFault::RepeatedOption(7),
+        ),
+        (
+            "solve R D --nodes 5 --cache 1 --nodes 6",
+            WordFault::RepeatedOption(7),
+        ),
+        ("solve R D --cache", WordFault::MissingValue(3)),
+        ("solve R D --nodes 5 --cache", WordFault::MissingValue(5)),
+        ("solve R D --cache 5 --nodes", WordFault::MissingValue(5)),
+        ("solve R D --cache --nodes 5", WordFault::BadOptionValue(4)),
+        ("solve R D --cache 0", WordFault::BadOptionValue(4)),
+        ("solve R D --cache 05", WordFault::BadOptionValue(4)),
+        ("solve R D --cache +5", WordFault::BadOptionValue(4)),
+        ("solve R D --cache ", WordFault::BadOptionValue(4)),
+        ("solve R D --cache 4000001", WordFault::BadOptionValue(4)),
+        ("solve R D --cache 4294967297", WordFault::BadOptionValue(4)),
+        (
+            "solve R D --nodes 5 --cache 0",
+            WordFault::BadOptionValue(6),
+        ),
+        (
+            "solve R D --cache 0 --nodes 0",
+            WordFault::BadOptionValue(4),
+        ),
     ] {
         let words = split(rt.alloc(), line)?;
         assert!(rt; words.len() < 100);

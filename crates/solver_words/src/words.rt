@@ -1,10 +1,12 @@
 // The words of a command line.
 ghost use Rattle.std.specs.Prelude.{◌≡◌, ◌+◌, ◌<◌, ◌≤◌, ◌^◌, length, Ok, Err, IfOk, IfErr};
 ghost use Rattle.solver_words.specs.Texts.{texts};
-ghost use Rattle.solver_words.specs.Jobs.{is_name as is_name_of, after_name as after_name_of, no_more as no_more_of, solve_of, replay_of, rules_of, job_of, name_count};
+ghost use Rattle.solver_words.specs.Jobs.{is_name as is_name_of, after_name as after_name_of, no_more as no_more_of, solve_of, replay_of, rules_of, job_of, name_count, IsWithinLimits};
 
 use crate::options::read_options;
 use crate::{Job, WordFault};
+
+const DEFAULT_CACHE: u32 = 100_000;
 
 const DEFAULT_NODES: u64 = 1_000_000;
 
@@ -46,6 +48,7 @@ fn solve(words: &[String]) -> Result<Job, WordFault>
     let words = after_name(words)?;
     let given = read_options(3, words)?;
     Ok(Job::Solve {
+        cache: given.cache.unwrap_or(DEFAULT_CACHE),
         nodes: given.nodes.unwrap_or(DEFAULT_NODES),
     })
 }
@@ -71,11 +74,13 @@ fn rules(words: &[String]) -> Result<Job, WordFault>
 }
 
 /// The job that the words after the program's name stand for, or their first fault. A job's file
-/// names are the words from 1 on, and each of them is there. Takes no memory.
+/// names are the words from 1 on, and each of them is there. Its numbers are within their limits.
+/// Takes no memory.
 pub fn read_words(words: &[String]) -> Result<Job, WordFault>
     requires { length words.now < 2 ^ 32 }
     ensures job { result ≡ job_of (texts words.now) }
     ensures names { IfOk result (λ job. name_count job < length words.now) }
+    ensures within { IfOk result IsWithinLimits }
 {
     let Some((command, words)) = words.split_first() else {
         return Err(WordFault::NoCommand);

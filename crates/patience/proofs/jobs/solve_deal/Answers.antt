@@ -1,6 +1,10 @@
 use Rattle.solver_words.specs.Texts.{texts}
-use Rattle.patience.proofs.JobLimits.{nodes-job_of}
+use Rattle.solver_words.specs.declared.job.Job.TheVariants.{Solve}
+use Rattle.solver_words.proofs.JobLimits.{limits-job_of}
 use Rattle.patience.proofs.jobs.solve_deal.Goals as goal
 
+pub solve-requires-clause-some_cache : goal.solve-requires-clause-some_cache
+solve-requires-clause-some_cache g c = (limits-job_of (texts c.args.words.now) (Solve c.args.cache c.args.nodes) c.requires).0
+
 pub solve-requires-clause-some_nodes : goal.solve-requires-clause-some_nodes
-solve-requires-clause-some_nodes g c = nodes-job_of (texts c.args.words.now) c.args.nodes c.requires
+solve-requires-clause-some_nodes g c = (limits-job_of (texts c.args.words.now) (Solve c.args.cache c.args.nodes) c.requires).2

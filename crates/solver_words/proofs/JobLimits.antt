@@ -1,0 +1,115 @@
+-- The numbers of a job are within their limits.
+use Rattle.std.proofs.Common.{◌≡◌, ◌+◌, ◌≤◌, ◌&&◌, ℕ, List, [], ◌∷◌, Result, Ok, Err, IfOk, Bool, true, false, cond, codes, unwrap_or, refl, sym, subst, nat_le, lit≤}
+use Rattle.std.proofs.lemmas.Bool.{leb-true}
+use Rattle.std.specs.declared.option.Option.{Option}
+use Rattle.std.specs.declared.option.Option.TheVariants.{Some, None}
+use Rattle.std.specs.Str.{bytes_eq}
+use Rattle.solver_words.specs.declared.fault.WordFault.{WordFault}
+use Rattle.solver_words.specs.declared.fault.WordFault.TheVariants.{UnknownCommand, MissingValue}
+use Rattle.solver_words.specs.declared.job.Job.{Job}
+use Rattle.solver_words.specs.declared.job.Job.TheVariants.{Solve, Replay, Rules}
+use Rattle.solver_words.specs.declared.options.Kind.{Kind}
+use Rattle.solver_words.specs.declared.options.Kind.TheVariants.{Cache, Nodes}
+use Rattle.solver_words.specs.declared.options.Options.{Options}
+use Rattle.solver_words.specs.Numbers.{number_of, number_within, within}
+use Rattle.solver_words.specs.Options.{no_options, kind_at, number_at, with_value, options_from}
+use Rattle.solver_words.specs.Jobs.{after_name, no_more, solve_of, replay_of, rules_of, job_of, IsWithinLimits}
+use Rattle.solver_words.proofs.Choices.{ok_before}
+
+-- A number within limits is at least the lower one and at most the higher one.
+limits-within : (low high n : ℕ) (number : Option ℕ) → within low high number ≡ Some n → (low ≤ n) × (n ≤ high)
+limits-within low high n None h = cc
+limits-within low high n (Some m) h =
+    let none : Option ℕ = None in
+    let by_tests : (a b : Bool) → nat_le low m ≡ a → nat_le m high ≡ b → cond (a && b) (Some m) none ≡ Some n → (low ≤ n) × (n ≤ high) =
+    λ a b. elim a as (λ a. nat_le low m ≡ a → nat_le m high ≡ b → cond (a && b) (Some m) none ≡ Some n → (low ≤ n) × (n ≤ high)) [
+      | true ↦ elim b as (λ b. nat_le low m ≡ true → nat_le m high ≡ b → cond b (Some m) none ≡ Some n → (low ≤ n) × (n ≤ high)) [
+        | true ↦ λ least most e.
+            let same : m ≡ n = cc in
+            subst (λ k. (low ≤ k) × (k ≤ high)) same (leb-true low m least, leb-true m high most)
+        | false ↦ λ least most e. cc
+      ]
+      | false ↦ λ least most e. cc
+    ] in
+    by_tests (nat_le low m) (nat_le m high) refl refl h
+
+-- A word that gives a number gives it exactly.
+number_at-is : (at n : ℕ) (number : Option ℕ) → number_at at number ≡ Ok n → number ≡ Some n
+number_at-is at n None h = cc
+number_at-is at n (Some m) h = cc
+
+limits-number_at : (at low high n : ℕ) (word : List ℕ) → number_at at (number_within low high word) ≡ Ok n → (low ≤ n) × (n ≤ high)
+limits-number_at at low high n word h = limits-within low high n (number_of word) (number_at-is at n _ h)
+
+-- The job that solves with these options has its numbers within their limits.
+abbrev AreWithin : Options → Type 0
+AreWithin given = IsWithinLimits (Solve (unwrap_or given.cache 100000) (unwrap_or given.nodes 1000000))
+
+limits-with_value : (at : ℕ) (kind : Kind) (given more : Options) (word : List ℕ) → AreWithin given → with_value at kind given word ≡ Ok more
+    → AreWithin more
+limits-with_value at Cache given more word given_within h =
+    let (n, is_number, rest) = ok_before (number_at at (number_within 1 4000000 word)) _ more h in
+    let limits = limits-number_at at 1 4000000 n word is_number in
+    let same : record given { cache = Some n } ≡ more = cc in
+    subst AreWithin same (limits.0, limits.1, given_within.2, given_within.3)
+limits-with_value at Nodes given more word given_within h =
+    let (n, is_number, rest) = ok_before (number_at at (number_within 1 1000000000000 word)) _ more h in
+    let limits = limits-number_at at 1 1000000000000 n word is_number in
+    let same : record given { nodes = Some n } ≡ more = cc in
+    subst AreWithin same (given_within.0, given_within.1, limits.0, limits.1)
+
+limits-options_from : (at : ℕ) (given last : Options) (words : List (List ℕ)) → AreWithin given → options_from at given words ≡ Ok last
+    → AreWithin last
+limits-options_from at given last [] given_within h = let same : given ≡ last = cc in subst AreWithin same given_within
+limits-options_from at given last (option ∷ []) given_within h =
+    let (kind, is_kind, never) = ok_before (kind_at at option given) _ last h in
+    absurd (let no : Err (MissingValue at) ≡ Ok last = never in cc)
+limits-options_from at given last (option ∷ value ∷ rest) given_within h =
+    let (kind, is_kind, h1) = ok_before (kind_at at option given) _ last h in
+    let (more, is_more, h2) = ok_before (with_value (at + 1) kind given value) _ last h1 in
+    limits-options_from (at + 2) more last rest (limits-with_value (at + 1) kind given more value given_within is_more) h2
+
+limits-solve_of : (words : List (List ℕ)) (job : Job) → solve_of words ≡ Ok job → IsWithinLimits job
+limits-solve_of words job h =
+    let (one, is_one, h1) = ok_before (after_name words) _ job h in
+    let (two, is_two, h2) = ok_before (after_name one) _ job h1 in
+    let (given, is_given, h3) = ok_before (options_from 3 no_options two) _ job h2 in
+    let same : Solve (unwrap_or given.cache 100000) (unwrap_or given.nodes 1000000) ≡ job = cc in
+    subst IsWithinLimits same (limits-options_from 3 no_options given two (lit≤ tt, lit≤ tt, lit≤ tt, lit≤ tt) is_given)
+
+pub if_ok-solve_of : (words : List (List ℕ)) (result : Result Job WordFault) → result ≡ solve_of words → IfOk result IsWithinLimits
+if_ok-solve_of words (Ok job) is = limits-solve_of words job (sym is)
+if_ok-solve_of words (Err fault) is = tt
+
+limits-replay_of : (words : List (List ℕ)) (job : Job) → replay_of words ≡ Ok job → IsWithinLimits job
+limits-replay_of words job h =
+    let (one, is_one, h1) = ok_before (after_name words) _ job h in
+    let (two, is_two, h2) = ok_before (after_name one) _ job h1 in
+    let (three, is_three, h3) = ok_before (after_name two) _ job h2 in
+    let (none, is_none, h4) = ok_before (no_more 4 three) _ job h3 in
+    let same : Replay ≡ job = cc in
+    subst IsWithinLimits same tt
+
+limits-rules_of : (words : List (List ℕ)) (job : Job) → rules_of words ≡ Ok job → IsWithinLimits job
+limits-rules_of words job h =
+    let (one, is_one, h1) = ok_before (after_name words) _ job h in
+    let (none, is_none, h2) = ok_before (no_more 2 one) _ job h1 in
+    let same : Rules ≡ job = cc in
+    subst IsWithinLimits same tt
+
+pub limits-job_of : (words : List (List ℕ)) (job : Job) → job_of words ≡ Ok job → IsWithinLimits job
+limits-job_of [] job h = cc
+limits-job_of (command ∷ words) job h =
+    let other : Result Job WordFault = Err UnknownCommand in
+    let by_tests : (a b c : Bool) → cond a (solve_of words) (cond b (replay_of words) (cond c (rules_of words) other)) ≡ Ok job → IsWithinLimits job =
+    λ a b c. elim a as (λ a. cond a (solve_of words) (cond b (replay_of words) (cond c (rules_of words) other)) ≡ Ok job → IsWithinLimits job) [
+      | true ↦ λ e. limits-solve_of words job e
+      | false ↦ elim b as (λ b. cond b (replay_of words) (cond c (rules_of words) other) ≡ Ok job → IsWithinLimits job) [
+        | true ↦ λ e. limits-replay_of words job e
+        | false ↦ elim c as (λ c. cond c (rules_of words) other ≡ Ok job → IsWithinLimits job) [
+          | true ↦ λ e. limits-rules_of words job e
+          | false ↦ λ e. absurd (let no : Err UnknownCommand ≡ Ok job = e in cc)
+        ]
+      ]
+    ] in
+    by_tests (bytes_eq command (codes "solve")) (bytes_eq command (codes "replay")) (bytes_eq command (codes "rules")) h
