@@ -4,3 +4,4 @@ pub mod Taking
 pub mod Deals
 pub mod Returning
 pub mod Sources
+pub mod FullPlaces

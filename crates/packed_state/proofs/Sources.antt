@@ -23,11 +23,11 @@ StartsWith-append old more mid xs e starts =
     ∙ ap (take (length old)) (starts ∙ e)
     ∙ take-append_seam old more
 
-and-false : (has other different can puts : Bool) → (has && can) ≡ false → (has && other && different && can && puts) ≡ false
-and-false false other different can puts e = refl
-and-false true false different can puts e = refl
-and-false true true false can puts e = refl
-and-false true true true can puts e = ap (λ b. b && puts) e
+not_given : (has other different can puts : Bool) → (has && can) ≡ false → (has && other && different && can && puts) ≡ false
+not_given false other different can puts e = refl
+not_given true false different can puts e = refl
+not_given true true false can puts e = refl
+not_given true true true can puts e = ap (λ b. b && puts) e
 
 -- the legal carries of at most n cards between two places
 abbrev pub legal_up_to : RuleParts → Board → Place → Place → ℕ → List Move
@@ -43,6 +43,6 @@ legal_up_to-not_given rules board to from n none =
     let listed : List Move = legal_up_to rules board to from n in
     filter_of_map_range_with_len_more (is_legal_move rules board) (λ count. Carry from to count) 1 n (n + 1) (omega arith)
     ∙ ap (λ b. listed ++ cond b (move ∷ []) [])
-    (and-false (has_place rules board from) (has_place rules board to) (not (same_place from to)) (can_take rules board from (n + 1))
+    (not_given (has_place rules board from) (has_place rules board to) (not (same_place from to)) (can_take rules board from (n + 1))
     (can_put rules board to (taken rules board from (n + 1))) none)
     ∙ append-nil listed

@@ -1,12 +1,12 @@
 -- The places that cards are taken from, and the moves that are listed of them.
-use Rattle.std.specs.Prelude.{◌≡◌, ℕ, List, map, take, length}
+use Rattle.std.specs.Prelude.{◌≡◌, ℕ, Bool, false, List, map, take, length, is_some}
 use Rattle.std.specs.List.{filter, flat_map, range_with_len}
 use Rattle.game_rules.specs.declared.RuleParts.{RuleParts}
 use Rattle.game_rules.specs.declared.Move.{Move}
 use Rattle.game_rules.specs.declared.Move.TheVariants.{Carry}
 use Rattle.game_rules.specs.declared.Place.{Place}
-use Rattle.game_rules.specs.declared.Place.TheVariants.{Tableau, Cell, Reserve, Foundation, Slot}
-use Rattle.game_rules.specs.Board.{Board}
+use Rattle.game_rules.specs.declared.Place.TheVariants.{Tableau, Cell, Reserve, Waste, Foundation, Hole, Slot}
+use Rattle.game_rules.specs.Board.{Board, entry_at}
 use Rattle.game_rules.specs.Play.{is_legal_move}
 use Rattle.packed_state.specs.declared.Source.{Source}
 use Rattle.packed_state.specs.declared.Kind.{Kind}
@@ -19,6 +19,16 @@ place_in Cells i = Cell i
 place_in Entries i = Reserve i
 place_in Foundations i = Foundation i
 place_in Slots i = Slot i
+
+-- whether the place holds the one card that it has room for
+abbrev pub is_full : Board → Place → Bool
+is_full board (Tableau i) = false
+is_full board (Cell i) = is_some (entry_at board.cells i)
+is_full board (Reserve i) = false
+is_full board Waste = false
+is_full board (Foundation f) = false
+is_full board Hole = false
+is_full board (Slot i) = is_some (entry_at board.slots i)
 
 -- the legal carries from a source to a place
 abbrev pub legal_from : RuleParts → Board → Place → Source → List Move

@@ -1,5 +1,5 @@
 //! The list of the legal moves of a packed board, in their order.
-ghost use Rattle.std.specs.Prelude.{◌≡◌, ℕ, ◌≤◌, ◌<◌, ◌+◌, ◌∷◌, [], ◌++◌, map, false, ◌&&◌, OnOk, OnErr};
+ghost use Rattle.std.specs.Prelude.{◌≡◌, ℕ, ◌≤◌, ◌<◌, ◌+◌, ◌∷◌, [], ◌++◌, map, true, ◌&&◌, OnOk, OnErr};
 ghost use Rattle.std.specs.List.{filter, flat_map, range_with_len};
 ghost use Rattle.arrayvec.specs.ArrayVec.{array_vec_len};
 ghost use Rattle.game_rules.specs.Board.{pile_at, has_place};
@@ -8,7 +8,7 @@ ghost use Rattle.game_rules.specs.Play.{is_legal_move};
 ghost use Rattle.game_rules.specs.Order.{hole_place, entry_count, sources, targets, legal_moves};
 ghost use Rattle.game_rules.specs.Belonging.{Belongs};
 ghost use Rattle.game_rules.proofs.Listing.{legal_between, legal_to};
-ghost use Rattle.packed_state.specs.Sources.{place_in, legal_from, legal_onto, StartsWith};
+ghost use Rattle.packed_state.specs.Sources.{place_in, is_full, legal_from, legal_onto, StartsWith};
 
 use crate::legal::is_legal;
 use crate::take::{has_place, pile_gives, single_at};
@@ -168,6 +168,18 @@ fn list_between(
     Ok(())
 }
 
+/// Whether the place holds the one card that it has room for.
+fn is_full(rules: &Rules, board: &PackedBoard, to: Place) -> bool
+    requires { Belongs rules.now board.now }
+    ensures { result ≡ true → is_full board.now to ≡ true }
+{
+    match to {
+        Place::Cell(i) => i < rules.cells() && board.cell(i).is_some(),
+        Place::Slot(i) => i < rules.slot_count() && board.slot(i).is_some(),
+        _ => false,
+    }
+}
+
 /// Appends the legal carries to a place.
 fn list_to(
     rules: &Rules,
@@ -180,6 +192,9 @@ fn list_to(
     ensures ok { OnOk result (out.new.items ≡ out.old.items ++ legal_onto rules.now board.now sources.now to) }
     ensures err { OnErr result (StartsWith out.new.items out.old.items) }
 {
+    if is_full(rules, board, to) {
+        return Ok(());
+    }
     for source in sources {
         list_between(rules, board, to, *source, out)?;
     }

@@ -1,5 +1,5 @@
 -- The key of a board: a list of bytes in which each part says how long it is.
-use Rattle.std.specs.Prelude.{ℕ, ◌+◌, List, [], ◌∷◌, ◌++◌, map, length, Option, Some, None}
+use Rattle.std.specs.Prelude.{ℕ, ◌+◌, List, ◌∷◌, ◌++◌, map, length, Option, Some, None}
 use Rattle.std.specs.List.{flat_map}
 use Rattle.card_piles.specs.Cards.{number_of}
 use Rattle.card_piles.specs.declared.Card.{Card}

@@ -1,5 +1,6 @@
-use Rattle.std.proofs.Common.{◌≡◌, append_assoc, refl}
+use Rattle.std.proofs.Common.{◌≡◌, List, append_assoc, refl}
 use Rattle.std.specs.List.{flat_map}
+use Rattle.game_rules.specs.declared.Move.{Move}
 use Rattle.game_rules.specs.Order.{sources, targets}
 use Rattle.game_rules.proofs.Listing.{legal_to, legal_moves-step_by_step}
 use Rattle.packed_state.specs.Sources.{legal_onto}
@@ -20,4 +21,4 @@ returns-clause-ok c =
       same,
       legal_moves-step_by_step rules board,
     )
-    (simp append_assoc refl)
+    (simp append_assoc (refl {A = List Move}))
