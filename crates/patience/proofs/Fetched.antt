@@ -1,5 +1,5 @@
 -- What was fetched of a file says what the file says.
-use Rattle.std.proofs.Common.{◌≡◌, ◌++◌, ℕ, List, [], take, Result, Ok, Err, ap, sym, ◌∙◌, refl, IsTrue, subst, inl, inr}
+use Rattle.std.proofs.Common.{◌≡◌, ℕ, List, [], Ok, ap, sym, ◌∙◌, IsTrue, subst, inl}
 use Rattle.std.specs.declared.option.Option.{Option}
 use Rattle.game_rules.specs.declared.RuleParts.{RuleParts}
 use Rattle.game_rules.specs.declared.Move.{Move}
@@ -16,11 +16,9 @@ use Rattle.solver_words.specs.declared.job.Job.TheVariants as job
 use Rattle.solver_words.specs.Jobs.{job_of}
 use Rattle.patience.specs.declared.report.Stop.{Stop}
 use Rattle.patience.specs.declared.report.Stop.TheVariants.{Told, NoMemory}
-use Rattle.patience.specs.declared.status.Status.{Status}
-use Rattle.patience.specs.declared.status.Status.TheVariants.{Done, Usage, ShelfFailed, RulesRefused, DealRefused, LineRefused, SinkFailed, Memory}
-use Rattle.patience.specs.Causes.{Shelved, Explains, Fails, HasRules, HasDeal, HasLine, takes_deal, rules_name, deal_name, line_name, if_built, rules_for}
-use Rattle.patience.specs.Stages.{Stops, IsFailure, RefusesRules, RefusesDeal, RefusesLine}
-use Rattle.patience.specs.declared.report.FileRole.TheVariants as role
+use Rattle.patience.specs.declared.status.Status.TheVariants.{RulesRefused, DealRefused, LineRefused}
+use Rattle.patience.specs.Causes.{Shelved, Explains, HasRules, HasDeal, HasLine, takes_deal, rules_name, deal_name, line_name, if_built, rules_for}
+use Rattle.patience.specs.Stages.{Stops, RefusesRules, RefusesDeal, RefusesLine}
 
 -- the bytes that were read are those that were fetched
 pub read_as : (files : Option (List File)) (name read bytes : List ℕ) (limit : ℕ) → read ≡ bytes → Fetches files name limit [] bytes → Fetches files name limit [] read

@@ -1,5 +1,5 @@
 -- The causes exclude each other: a status that has its cause is the one that must be answered.
-use Rattle.std.proofs.Common.{◌≡◌, ◌≢◌, ℕ, List, Bool, true, false, refl, sym, ◌∙◌, ap, inl, inr, ◌⊎◌, subst, Result, Ok, Err, IsTrue}
+use Rattle.std.proofs.Common.{◌≡◌, ℕ, List, true, false, refl, sym, ◌∙◌, ap, inl, inr, subst, Result, Ok, Err, IsTrue}
 use Rattle.std.specs.declared.option.Option.{Option}
 use Rattle.std.specs.declared.option.Option.TheVariants.{Some, None}
 use Rattle.outside_io.specs.Shelf.{File, HasBytes, Tells}
@@ -19,7 +19,7 @@ use Rattle.win_replay.specs.declared.Replayed.TheVariants as replayed
 use Rattle.win_replay.specs.Replays.{IsReplayed}
 use Rattle.patience.specs.declared.status.Status.{Status}
 use Rattle.patience.specs.declared.status.Status.TheVariants.{Done, Usage, ShelfFailed, RulesRefused, DealRefused, LineRefused, SinkFailed, Memory}
-use Rattle.patience.specs.Causes.{Shelved, Fails, Explains, rules_name, deal_name, line_name, takes_deal, rules_for, HasRules, HasDeal, HasLine, IsUsage, IsRulesFailure, IsDealFailure, IsLineFailure, IsRulesRefusal, IsDealRefusal, IsBadLine, IsIllegalLine, IsShortLine, IsSolved, IsWinningLine, IsSpelled}
+use Rattle.patience.specs.Causes.{Shelved, Explains, rules_name, deal_name, line_name, takes_deal, rules_for, HasRules, HasDeal, HasLine, IsUsage, IsRulesFailure, IsDealFailure, IsLineFailure, IsRulesRefusal, IsDealRefusal, IsBadLine, IsIllegalLine, IsShortLine, IsSolved, IsWinningLine, IsSpelled}
 use Rattle.patience.specs.Answers.{Gives, GivesRules, GivesDeal, Follows}
 use Rattle.patience.proofs.Replay.{wins-not_short, wins-not_illegal}
 

@@ -1,5 +1,5 @@
 -- What refuses a rules file.
-use Rattle.std.proofs.Common.{◌≡◌, ◌≢◌, ℕ, List, Bool, true, false, cond, Result, Ok, Err, ap, sym, ◌∙◌}
+use Rattle.std.proofs.Common.{◌≡◌, ◌≢◌, ℕ, List, Bool, false, cond, Result, Ok, Err, ap, sym, ◌∙◌}
 use Rattle.game_rules.specs.declared.RuleParts.{RuleParts}
 use Rattle.rules_json.specs.declared.fault.RulesFault.{RulesFault}
 use Rattle.rules_json.specs.Faults.{rules_fault_text}

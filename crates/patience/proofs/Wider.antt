@@ -1,5 +1,5 @@
 -- A cause seen from an earlier start and a later end.
-use Rattle.std.proofs.Common.{◌≡◌, ◌≤◌, ◌+◌, ◌^◌, ◌-◌, ℕ, List, min, refl, arith, inl, inr, ◌⊎◌, subst, sym}
+use Rattle.std.proofs.Common.{◌≡◌, ◌≤◌, ℕ, List, arith, inl, inr, subst}
 use Rattle.std.specs.declared.option.Option.{Option}
 use Rattle.outside_io.specs.Faults.{Rose}
 use Rattle.outside_io.specs.Shelf.{File}
@@ -7,7 +7,7 @@ use Rattle.patience.specs.declared.report.Stop.{Stop}
 use Rattle.patience.specs.declared.report.Stop.TheVariants.{Told, NoMemory}
 use Rattle.patience.specs.declared.status.Status.{Status}
 use Rattle.patience.specs.declared.status.Status.TheVariants.{Done, Usage, ShelfFailed, RulesRefused, DealRefused, LineRefused, SinkFailed, Memory}
-use Rattle.patience.specs.Causes.{Shelved, Explains, IsRulesFailure, IsDealFailure, IsLineFailure}
+use Rattle.patience.specs.Causes.{Explains}
 use Rattle.patience.specs.Stages.{Stops}
 
 -- a count that rose rose also from an earlier value to a later one

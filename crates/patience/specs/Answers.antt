@@ -1,5 +1,5 @@
 -- What is written with each status, and which status must be answered.
-use Rattle.std.specs.Prelude.{ℕ, ◌≡◌, ◌≢◌, IsTrue, List, Option, Result, Ok, Err}
+use Rattle.std.specs.Prelude.{ℕ, ◌≡◌, ◌≢◌, IsTrue, List, Option, Ok, Err}
 use Rattle.std.specs.Io.KnownBytes.{Appends}
 use Rattle.outside_io.specs.Sink.{AppendsPrefix}
 use Rattle.outside_io.specs.Shelf.{Tells}
@@ -17,7 +17,7 @@ use Rattle.line_printer.specs.LineFile.{line_of}
 use Rattle.win_replay.specs.declared.Replayed.TheVariants as replayed
 use Rattle.win_replay.specs.Replays.{IsReplayed}
 use Rattle.patience.specs.declared.status.Status.{Status}
-use Rattle.patience.specs.declared.status.Status.TheVariants.{Done, Usage, ShelfFailed, RulesRefused, DealRefused, LineRefused, SinkFailed, Memory}
+use Rattle.patience.specs.declared.status.Status.TheVariants.{Done, Usage, RulesRefused, DealRefused, LineRefused, SinkFailed, Memory}
 use Rattle.patience.specs.Causes.{Shelved, Fails, rules_name, deal_name, line_name, takes_deal, rules_for}
 
 -- A status other than SinkFailed and Memory comes with a text that it explains, and this text alone was written.

@@ -1,5 +1,5 @@
 -- Each status and text that the program may answer, with its cause in the words and in the files.
-use Rattle.std.specs.Prelude.{ℕ, ◌≡◌, ◌==◌, ◌&&◌, ◌⊎◌, min, not, IsTrue, Bool, true, false, List, [], ◌∷◌, ◌++◌, length, slice_index_or, Option, Result, Ok, Err, if◌then◌else◌}
+use Rattle.std.specs.Prelude.{ℕ, ◌≡◌, ◌==◌, ◌&&◌, ◌⊎◌, min, not, IsTrue, Bool, true, false, List, [], length, slice_index_or, Option, Result, Ok, Err, if◌then◌else◌}
 use Rattle.outside_io.specs.Faults.{Rose}
 use Rattle.outside_io.specs.Shelf.{File, HasBytes}
 use Rattle.game_rules.specs.declared.RuleParts.{RuleParts}
@@ -189,7 +189,6 @@ pub record IsSolved (files : Option (List File)) (words : List (List ℕ)) (text
   pub has_deal : HasDeal files words (job.Solve cache nodes) rules start
   pub verdict : Verdict
   pub is_true : IsVerdict rules start cache nodes verdict
-
   -- where so few boards cover the game, the verdict is not undecided
   pub decides : IsSmall rules start (min nodes cache) → IsDecided verdict
   pub printed : text ≡ output_of verdict

@@ -1,5 +1,5 @@
 -- What each stage of a job hands on.
-use Rattle.std.specs.Prelude.{ℕ, ◌≡◌, List, Result, Ok, Err, ⊤}
+use Rattle.std.specs.Prelude.{ℕ, ◌≡◌, List, Err, ⊤}
 use Rattle.game_rules.specs.declared.RuleParts.{RuleParts}
 use Rattle.deal_reader.specs.declared.fault.DealFault.{DealFault}
 use Rattle.deal_reader.specs.FaultText.{deal_fault_text}
@@ -15,7 +15,7 @@ use Rattle.patience.specs.declared.report.Stop.{Stop}
 use Rattle.patience.specs.declared.report.Stop.TheVariants.{Told, NoMemory}
 use Rattle.patience.specs.declared.status.Status.{Status}
 use Rattle.patience.specs.declared.status.Status.TheVariants.{ShelfFailed, RulesRefused, DealRefused, LineRefused}
-use Rattle.patience.specs.Causes.{Shelved, Explains, rules_for}
+use Rattle.patience.specs.Causes.{rules_for}
 use Rattle.patience.specs.Texts.{failed_text, refused_text}
 
 -- a stop that tells a status and a text has their cause

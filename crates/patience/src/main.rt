@@ -11,6 +11,8 @@ mod files;
 mod jobs;
 mod lines;
 mod report;
+#[cfg(test)]
+mod solved;
 mod status;
 #[cfg(test)]
 mod tests;

@@ -26,13 +26,18 @@ const SPACE: &[u8] = b"{\"max rank\":2,\"tableau\":{\"piles\":2}}";
 
 const UNDER: &[u8] = b"{\"tableau\":[[\"AC\",\"2C\"]],\"foundations\":[0,2,2,2]}";
 
-fn words(alloc: Global, text: &str) -> Result<Vec<String>, AllocError> {
+/// The words between blanks.
+pub fn words(alloc: Global, text: &str) -> Result<Vec<String>, AllocError> {
     let mut words = Vec::new(alloc);
     for word in text.split_whitespace() {
         words.push(String::from_str(alloc, word)?)?;
     }
     Ok(words)
 }
+
+/// Runs of one suit, which leave the tableau whole.
+const COMPLETE_RUNS: &[u8] =
+    b"{\"tableau\":{\"build\":\"same-suit\",\"groups\":\"run\"},\"foundations\":{\"complete runs\":true}}";
 
 fn shelf(alloc: Global) -> Result<MemoryShelf, Fail> {
     let mut shelf = MemoryShelf::new(alloc);
@@ -48,6 +53,8 @@ fn shelf(alloc: Global) -> Result<MemoryShelf, Fail> {
         b"{\"tableau\":[[\"AC\",\"2C\"],[\"AD\",\"2D\"],[\"AH\",\"2H\"],[\"AS\"]],\"hole\":[\"AS\"]}",
     )?;
     shelf.add("stock", b"{\"stock\":{\"size\":1}}")?;
+    shelf.add("rows", b"{\"sequences\":{}}")?;
+    shelf.add("suits", COMPLETE_RUNS)?;
     shelf.add("won", WON.as_bytes())?;
     shelf.add("line", b"t0 t1 1\nt0 f0\nt1 f0\n")?;
     shelf.add("short", b"t0 t1 1\n")?;
@@ -59,7 +66,7 @@ fn shelf(alloc: Global) -> Result<MemoryShelf, Fail> {
 #[test]
 fn verdicts_and_refusals(rt: HostRuntime) -> Result<(), Fail> {
     let alloc = rt.alloc();
-    let rows: [(&str, &str, Status); 16] = [
+    let rows: [(&str, &str, Status); 21] = [
         ("solve rules deal", WON, Status::Done),
         (
             "solve three dead",
@@ -77,6 +84,11 @@ fn verdicts_and_refusals(rt: HostRuntime) -> Result<(), Fail> {
             "refused words bad-option-value 4\n",
             Status::Usage,
         ),
+        (
+            "solve rules deal --nodes 5 --cache 0",
+            "refused words bad-option-value 6\n",
+            Status::Usage,
+        ),
         ("solve nowhere deal", "failed rules\n", Status::ShelfFailed),
         ("solve rules nowhere", "failed deal\n", Status::ShelfFailed),
         (
@@ -86,6 +98,16 @@ fn verdicts_and_refusals(rt: HostRuntime) -> Result<(), Fail> {
         ),
         (
             "solve stock deal",
+            "refused rules not-built\n",
+            Status::RulesRefused,
+        ),
+        (
+            "solve rows deal",
+            "refused rules not-built\n",
+            Status::RulesRefused,
+        ),
+        (
+            "solve suits deal",
             "refused rules not-built\n",
             Status::RulesRefused,
         ),
@@ -113,6 +135,16 @@ fn verdicts_and_refusals(rt: HostRuntime) -> Result<(), Fail> {
         ),
         (
             "replay stock deal won",
+            "refused rules not-built\n",
+            Status::RulesRefused,
+        ),
+        (
+            "replay rows deal won",
+            "refused rules not-built\n",
+            Status::RulesRefused,
+        ),
+        (
+            "replay suits deal won",
             "refused rules not-built\n",
             Status::RulesRefused,
         ),

@@ -1,5 +1,5 @@
 -- A walk by equal keys is a walk by equal boards.
-use Rattle.std.proofs.Common.{◌≡◌, Bool, true, ap}
+use Rattle.std.proofs.Common.{◌≡◌, true, ap}
 use Rattle.std.specs.Prelude.{nat_eq}
 use Rattle.std.specs.Cmp.Lexicographic.{pointwise, bytes_decides}
 use Rattle.game_rules.specs.declared.RuleParts.{RuleParts}

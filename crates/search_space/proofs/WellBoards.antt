@@ -1,6 +1,6 @@
 -- The test passes exactly the boards that belong to the rules.
-use Rattle.std.proofs.Common.{◌≡◌, ℕ, ◌≤◌, Bool, true, false, ◌&&◌, List, [], ◌∷◌, length, refl, sym, subst, All}
-use Rattle.std.specs.Prelude.{Option, Some, None, IsTrue, IfSome, ◌==◌, is_none, is_some, nat_le, if◌then◌else◌}
+use Rattle.std.proofs.Common.{◌≡◌, true, ◌&&◌, List, length, refl, sym, subst, All}
+use Rattle.std.specs.Prelude.{Option, Some, None, IsTrue, IfSome, is_none, nat_le}
 use Rattle.std.specs.List.{list_all}
 use Rattle.std.specs.Option.{option_to_list}
 use Rattle.std.proofs.lemmas.List.Elements.{All-weaker}

@@ -1,5 +1,5 @@
 -- A board that has the places of its rules is the board of its own parts.
-use Rattle.std.proofs.Common.{◌≡◌, ℕ, ◌+◌, ◌*◌, ◌-◌, ◌<◌, ◌≤◌, zero, suc, Bool, true, false, ◌&&◌, List, [], ◌∷◌, ◌++◌, map, length, take, drop, replicate, get_or, refl, ap, ap₂, sym, ◌∙◌, arith, append-nil, take_all, length-take, length-drop, mul-le-mul_right}
+use Rattle.std.proofs.Common.{◌≡◌, ℕ, ◌+◌, ◌*◌, ◌-◌, ◌<◌, ◌≤◌, zero, suc, Bool, true, false, List, [], ◌∷◌, ◌++◌, map, length, take, drop, replicate, get_or, refl, ap, ap₂, sym, ◌∙◌, arith, append-nil, take_all, length-take, length-drop, mul-le-mul_right}
 use Rattle.std.specs.Prelude.{cond, Option, None, IsTrue, ◌==◌, is_some, if◌then◌else◌}
 use Rattle.std.specs.List.{list_all, filter, flat_map, range_with_len}
 use Rattle.std.proofs.Math.Seq.{take-add}
