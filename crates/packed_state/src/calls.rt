@@ -47,7 +47,7 @@ impl Packed {
     /// is as before.
     pub fn list_moves(
         &self,
-        alloc: Global,
+        _alloc: Global,
         rules: &Rules,
         out: &mut Vec<Move>,
     ) -> Result<(), NoMemory>
