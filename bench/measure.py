@@ -4,11 +4,13 @@
 usage: bench/measure.py [PROGRAM] [--nodes N] [--cache N]
 
 PROGRAM is the built program, crates/patience/out/patience if left out. N is 100,000 nodes if left out, and the cache
-is the program's own. The memory is the most that the system counted for the run (its resident set), program included.
+is the program's own. The memory is the most that the system counted for the run while it went on (the high-water mark of
+its resident set, on Linux), the program's own pages included.
 """
 import os
 import subprocess
 import sys
+import tempfile
 import time
 
 TOP = os.path.dirname(os.path.dirname(os.path.abspath(__file__)))
@@ -20,17 +22,33 @@ DEALS = [
 ]
 
 
+def high_water(process):
+    """The most bytes that the process has held so far, and 0 where it is gone."""
+    try:
+        with open(f"/proc/{process}/status") as status:
+            for line in status:
+                if line.startswith("VmHWM:"):
+                    return int(line.split()[1]) * 1024
+    except OSError:
+        pass
+    return 0
+
+
 def run(words):
     """The output, the seconds and the bytes of one run."""
     begin = time.monotonic()
-    child = subprocess.Popen(words, stdout=subprocess.PIPE)
-    text = child.stdout.read().decode()
-    _, status, usage = os.wait4(child.pid, 0)
-    child.returncode = os.waitstatus_to_exitcode(status)
-    seconds = time.monotonic() - begin
+    with tempfile.TemporaryFile() as out:
+        child = subprocess.Popen(words, stdout=out)
+        memory = 0
+        while child.poll() is None:
+            memory = max(memory, high_water(child.pid))
+            time.sleep(0.002)
+        seconds = time.monotonic() - begin
+        out.seek(0)
+        text = out.read().decode()
     if child.returncode != 0:
         sys.exit(f"{' '.join(words)}: status {child.returncode}: {text}")
-    return text, seconds, usage.ru_maxrss * 1024
+    return text, seconds, memory
 
 
 def main():

@@ -51,7 +51,7 @@ fn printed(
 #[test]
 fn verdicts_are_printed_whole(rt: HostRuntime) -> Result<(), Fail> {
     let alloc = rt.alloc();
-    let rows: [(&str, &str, &str, &str); 8] = [
+    let rows: [(&str, &str, &str, &str); 10] = [
         // won before any move
         (
             r#"{"max rank":1}"#,
@@ -85,6 +85,20 @@ fn verdicts_are_printed_whole(rt: HostRuntime) -> Result<(), Fail> {
             r#"{"max rank":3,"tableau":{"piles":3,"spaces":"king"}}"#,
             r#"{"tableau":[["AC","2C"],["3C"],[]],"foundations":[0,3,3,3]}"#,
             "solve rules deal",
+            "unwinnable\nnodes 2\nnarrow 0\n",
+        ),
+        // the same with one node, which is spent on the first of the two
+        (
+            r#"{"max rank":3,"tableau":{"piles":3,"spaces":"king"}}"#,
+            r#"{"tableau":[["AC","2C"],["3C"],[]],"foundations":[0,3,3,3]}"#,
+            "solve rules deal --nodes 1",
+            "undecided\nnodes 1\nnarrow 0\n",
+        ),
+        // and with two, which are enough
+        (
+            r#"{"max rank":3,"tableau":{"piles":3,"spaces":"king"}}"#,
+            r#"{"tableau":[["AC","2C"],["3C"],[]],"foundations":[0,3,3,3]}"#,
+            "solve rules deal --nodes 2 --cache 1",
             "unwinnable\nnodes 2\nnarrow 0\n",
         ),
         // one space for two cards
