@@ -8,6 +8,8 @@
 #![tactic(auto)]
 
 mod files;
+#[cfg(test)]
+mod hostile;
 mod jobs;
 mod lines;
 mod report;

@@ -5,10 +5,10 @@ use std::alloc::{AllocError, Global};
 use std::test::Fail;
 
 /// Four piles of aces and twos, round an ace in the hole.
-const RULES: &[u8] =
+pub const RULES: &[u8] =
     b"{\"max rank\":2,\"tableau\":{\"piles\":4,\"spaces\":\"none\"},\"hole\":{\"start\":\"AS\"}}";
 
-const DEAL: &[u8] =
+pub const DEAL: &[u8] =
     b"{\"tableau\":[[\"AC\",\"2C\"],[\"AD\",\"2D\"],[\"AH\",\"2H\"],[\"2S\"]],\"hole\":[\"AS\"]}";
 
 const WON: &str =
@@ -217,25 +217,6 @@ fn a_put_that_fails_leaves_a_prefix(rt: HostRuntime) -> Result<(), Fail> {
             "at call {call}"
         );
         length = length.saturating_add(line.len());
-    }
-    Ok(())
-}
-
-#[test]
-fn a_file_that_was_cut_is_no_json(rt: HostRuntime) -> Result<(), Fail> {
-    let alloc = rt.alloc();
-    for length in 0..RULES.len() {
-        let mut shelf = MemoryShelf::new(alloc);
-        shelf.add("cut", &RULES[..length])?;
-        let mut sink = MemorySink::new(alloc, 1000)?;
-        let words = words(alloc, "solve cut nowhere")?;
-        assert!(rt; words.len() < 100);
-        let status = patience(alloc, &words, &mut shelf, &mut sink);
-        assert_eq!(rt; status, Status::RulesRefused, "at {length}");
-        assert!(rt;
-            sink.bytes() == b"refused rules not-json\n".as_slice(),
-            "at {length}"
-        );
     }
     Ok(())
 }
