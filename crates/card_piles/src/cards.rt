@@ -48,3 +48,13 @@ impl Card {
         self.suit.is_red()
     }
 }
+
+/// The ace of clubs: a fixed list holds it in each unused place.
+impl Default for Card {
+    fn default() -> Card {
+        Card {
+            suit: Suit::Clubs,
+            rank: 1,
+        }
+    }
+}

@@ -1,212 +1,256 @@
-//! The list of the legal moves of a board, in their order.
-ghost use Rattle.std.specs.Prelude.{◌≡◌, ℕ, ◌≤◌, ◌<◌, ◌+◌, ◌-◌, ◌∷◌, [], ◌++◌, List, map, min, length, IfOk, OnOk, OnErr};
-ghost use Rattle.std.specs.List.{filter, flat_map, range_with_len};
-ghost use Rattle.game_rules.specs.Board.{pile_at};
-ghost use Rattle.game_rules.specs.Taking.{most_taken};
-ghost use Rattle.game_rules.specs.Play.{is_legal_move};
-ghost use Rattle.game_rules.specs.Order.{hole_place, entry_count, carries_between, sources, targets, legal_moves};
+//! The list of the legal moves of a table, in their order.
+ghost use Rattle.std.specs.Prelude.{◌≡◌, ℕ, ◌≤◌, ◌<◌, ◌+◌, ◌∷◌, [], ◌++◌, map, true, ◌||◌, ◌&&◌, ◌==◌, not, length, IsTrue, OnOk, OnErr};
+ghost use Rattle.std.specs.List.{All, filter, flat_map, range_with_len};
+ghost use Rattle.card_sets.specs.Sets.{has_bit};
+ghost use Rattle.game_rules.specs.Board.{has_place};
+ghost use Rattle.game_rules.specs.Play.{is_legal_move, same_place};
+ghost use Rattle.game_rules.specs.Order.{hole_place, targets, legal_moves};
 ghost use Rattle.game_rules.specs.Belonging.{Belongs};
-ghost use Rattle.game_rules.proofs.Listing.{legal_between, legal_to};
+ghost use Rattle.legal_moves.specs.Fits.{Fits, takes_groups, is_asked_card_by_card};
 ghost use Rattle.legal_moves.specs.Kinds.{place_in};
+ghost use Rattle.legal_moves.specs.Offers.{IsGiven, legal_of, StartsWith};
 
+use crate::fit::fit_of;
 use crate::legal::is_legal;
+use crate::offers::{Offer, Offers, offers};
+use crate::places::{Kind, are_apart, place_in};
+use crate::put::{can_go, is_asked_card_by_card, takes_groups};
 use card_piles::NoMemory;
-use game_model::{Board, Rules};
-use game_rules::{Groups, Move, Place};
+use card_sets::CardSet;
+use game_model::{Board, Rules, Table};
+use game_rules::{Move, Place};
 use std::alloc::{AllocError, Global};
 
-/// No game has more places that cards may be put on, or taken from.
-const MOST_PLACES: usize = 128;
-
-/// Few boards have more legal moves.
-const USUAL_MOVES: usize = 64;
-
-/// A kind of places that are numbered.
-#[derive(Clone, Copy)]
-enum Kind {
-    Piles,
-    Cells,
-    Entries,
-    Foundations,
-    Slots,
-}
-
-fn place_in(kind: Kind, i: u8) -> Place
-    ensures { result ≡ place_in kind i }
+/// The first cards of what is offered.
+fn free(offers: &[Offer]) -> CardSet
+    requires { All (λ offer. offer.bit.place < 64) offers.now }
+    ensures { All (λ offer. has_bit result offer.bit ≡ true) offers.now }
 {
-    match kind {
-        Kind::Piles => Place::Tableau(i),
-        Kind::Cells => Place::Cell(i),
-        Kind::Entries => Place::Reserve(i),
-        Kind::Foundations => Place::Foundation(i),
-        Kind::Slots => Place::Slot(i),
+    let mut set = CardSet::none();
+    for offer in offers {
+        set = set.with_bit(offer.bit);
     }
+    set
 }
 
-/// Appends the places of a kind.
-fn push_places(kind: Kind, n: u8, places: &mut Vec<Place>) -> Result<(), AllocError>
-    ensures { OnOk result (places.new.items ≡ places.old.items ++ map (place_in kind) (range_with_len 0 n)) }
+/// Whether what is offered goes on a place that accepts a set of cards: it does not lie there already.
+fn is_fitted(to: Place, set: CardSet, offer: Offer) -> bool
+    requires { offer.bit.place < 64 }
+    ensures { result ≡ (((takes_groups to || (offer.count == 1)) && has_bit set offer.bit) && not (same_place offer.from to)) }
+{
+    (takes_groups(to) || offer.count == 1) && set.has_bit(offer.bit) && are_apart(offer.from, to)
+}
+
+/// Appends the carries of what is offered to a place that accepts a set of cards.
+fn list_fitting<T: Table>(
+    rules: &Rules,
+    table: &T,
+    to: Place,
+    set: CardSet,
+    offers: &[Offer],
+    out: &mut Vec<Move>,
+) -> Result<(), AllocError>
+    requires here { IsTrue (has_place rules.now (T.board table.now) to) }
+    requires fits { Fits rules.now (T.board table.now) to set }
+    requires given { All (IsGiven rules.now (T.board table.now)) offers.now }
+    ensures ok { OnOk result (out.new.items ≡ out.old.items ++ legal_of rules.now (T.board table.now) offers.now to) }
+    ensures err { OnErr result (StartsWith out.new.items out.old.items) }
+{
+    for offer in offers {
+        if is_fitted(to, set, *offer) {
+            out.push(Move::Carry {
+                from: offer.from,
+                to,
+                count: offer.count,
+            })?;
+        }
+    }
+    Ok(())
+}
+
+/// Appends the carries of what is offered to a foundation that takes complete runs.
+fn list_runs<T: Table>(
+    rules: &Rules,
+    table: &T,
+    to: Place,
+    offers: &[Offer],
+    out: &mut Vec<Move>,
+) -> Result<(), AllocError>
+    requires here { IsTrue (has_place rules.now (T.board table.now) to) }
+    requires given { All (IsGiven rules.now (T.board table.now)) offers.now }
+    ensures ok { OnOk result (out.new.items ≡ out.old.items ++ legal_of rules.now (T.board table.now) offers.now to) }
+    ensures err { OnErr result (StartsWith out.new.items out.old.items) }
+{
+    for offer in offers {
+        if can_go(rules, table, *offer, to) {
+            out.push(Move::Carry {
+                from: offer.from,
+                to,
+                count: offer.count,
+            })?;
+        }
+    }
+    Ok(())
+}
+
+/// Appends the legal carries of what is offered to a place. A place that accepts no free card is passed by.
+fn list_to<T: Table>(
+    rules: &Rules,
+    table: &T,
+    to: Place,
+    offers: &[Offer],
+    free: CardSet,
+    out: &mut Vec<Move>,
+) -> Result<(), AllocError>
+    requires here { IsTrue (has_place rules.now (T.board table.now) to) }
+    requires given { All (IsGiven rules.now (T.board table.now)) offers.now }
+    requires free { All (λ offer. has_bit free offer.bit ≡ true) offers.now }
+    ensures ok { OnOk result (out.new.items ≡ out.old.items ++ legal_of rules.now (T.board table.now) offers.now to) }
+    ensures err { OnErr result (StartsWith out.new.items out.old.items) }
+{
+    if !is_asked_card_by_card(rules, to) {
+        return list_runs(rules, table, to, offers, out);
+    }
+    let set = fit_of(rules, table, to);
+    if !free.meets(set) {
+        return Ok(());
+    }
+    list_fitting(rules, table, to, set, offers, out)
+}
+
+/// Appends the legal carries to the places of a kind.
+fn list_onto<T: Table>(
+    rules: &Rules,
+    table: &T,
+    kind: Kind,
+    n: u8,
+    offers: &[Offer],
+    free: CardSet,
+    out: &mut Vec<Move>,
+) -> Result<(), AllocError>
+    requires here { (i : ℕ) → i < n → IsTrue (has_place rules.now (T.board table.now) (place_in kind i)) }
+    requires given { All (IsGiven rules.now (T.board table.now)) offers.now }
+    requires free { All (λ offer. has_bit free offer.bit ≡ true) offers.now }
+    ensures ok { OnOk result (out.new.items ≡ out.old.items ++ flat_map (legal_of rules.now (T.board table.now) offers.now) (map (place_in kind) (range_with_len 0 n))) }
+    ensures err { OnErr result (StartsWith out.new.items out.old.items) }
 {
     for i in 0..n {
-        places.push(place_in(kind, i))?;
+        list_to(rules, table, place_in(kind, i), offers, free, out)?;
     }
     Ok(())
 }
 
-/// Appends the hole, where the game has one.
-fn push_hole(rules: &Rules, places: &mut Vec<Place>) -> Result<(), AllocError>
-    ensures { OnOk result (places.new.items ≡ places.old.items ++ hole_place rules.now) }
+/// Appends the legal carries to the hole, where the game has one.
+fn list_to_hole<T: Table>(
+    rules: &Rules,
+    table: &T,
+    offers: &[Offer],
+    free: CardSet,
+    out: &mut Vec<Move>,
+) -> Result<(), AllocError>
+    requires given { All (IsGiven rules.now (T.board table.now)) offers.now }
+    requires free { All (λ offer. has_bit free offer.bit ≡ true) offers.now }
+    ensures ok { OnOk result (out.new.items ≡ out.old.items ++ flat_map (legal_of rules.now (T.board table.now) offers.now) (hole_place rules.now)) }
+    ensures err { OnErr result (StartsWith out.new.items out.old.items) }
 {
     if rules.has_hole() {
-        places.push(Place::Hole)?;
+        list_to(rules, table, Place::Hole, offers, free, out)?;
     }
     Ok(())
 }
 
-/// The places that cards may be put on, in order.
-fn targets(alloc: Global, rules: &Rules, board: &Board) -> Result<Vec<Place>, AllocError>
-    requires { Belongs rules.now board.now }
-    ensures { IfOk result (λ places. places.items ≡ targets rules.now board.now) }
-{
-    let mut places = Vec::with_capacity(alloc, MOST_PLACES)?;
-    push_places(Kind::Foundations, rules.foundation_count(), &mut places)?;
-    push_hole(rules, &mut places)?;
-    push_places(Kind::Slots, rules.slot_count(), &mut places)?;
-    push_places(Kind::Piles, rules.piles(), &mut places)?;
-    push_places(Kind::Cells, rules.cells(), &mut places)?;
-    Ok(places)
-}
-
-/// The number of places of the reserve.
-fn entry_count(rules: &Rules, board: &Board) -> u8
-    requires { Belongs rules.now board.now }
-    ensures { result ≡ entry_count rules.now board.now }
-{
-    if rules.stacked() { 1 } else { rules.reserve() }
-}
-
-/// The places that cards may be taken from, in order.
-fn sources(alloc: Global, rules: &Rules, board: &Board) -> Result<Vec<Place>, AllocError>
-    requires { Belongs rules.now board.now }
-    ensures { IfOk result (λ places. places.items ≡ sources rules.now board.now) }
-{
-    let mut places = Vec::with_capacity(alloc, MOST_PLACES)?;
-    push_places(Kind::Piles, rules.piles(), &mut places)?;
-    push_places(Kind::Cells, rules.cells(), &mut places)?;
-    push_places(Kind::Entries, entry_count(rules, board), &mut places)?;
-    places.push(Place::Waste)?;
-    push_places(Kind::Foundations, rules.foundation_count(), &mut places)?;
-    push_places(Kind::Slots, rules.slot_count(), &mut places)?;
-    Ok(places)
-}
-
-fn most_taken(rules: &Rules, board: &Board, from: Place) -> u8
-    requires { Belongs rules.now board.now }
-    ensures { result ≡ most_taken rules.now board.now from }
-{
-    match from {
-        Place::Tableau(i) => {
-            if matches!(rules.groups(), Groups::One) {
-                1
-            } else if i < rules.piles() {
-                let _ = rules.max_rank();
-                let height = board.pile(i).len();
-                height as u8
-            } else {
-                0
-            }
-        }
-        _ => 1,
-    }
-}
-
-/// Appends the legal carries between two places.
-fn list_between(
+/// Appends the legal carries.
+fn list_carries<T: Table>(
     rules: &Rules,
-    board: &Board,
-    to: Place,
-    from: Place,
+    table: &T,
+    offers: &[Offer],
     out: &mut Vec<Move>,
 ) -> Result<(), AllocError>
-    requires { Belongs rules.now board.now }
-    ensures { OnOk result (out.new.items ≡ out.old.items ++ legal_between rules.now board.now to from) }
+    requires belongs { Belongs rules.now (T.board table.now) }
+    requires given { All (IsGiven rules.now (T.board table.now)) offers.now }
+    ensures ok { OnOk result (out.new.items ≡ out.old.items ++ flat_map (legal_of rules.now (T.board table.now) offers.now) (targets rules.now (T.board table.now))) }
+    ensures err { OnErr result (StartsWith out.new.items out.old.items) }
 {
-    for taken in 0..most_taken(rules, board, from) {
-        let m = Move::Carry {
-            from,
-            to,
-            count: taken + 1,
-        };
-        if is_legal(rules, board, m) {
-            out.push(m)?;
-        }
-    }
-    Ok(())
-}
-
-/// Appends the legal carries to a place.
-fn list_to(
-    rules: &Rules,
-    board: &Board,
-    to: Place,
-    froms: &[Place],
-    out: &mut Vec<Move>,
-) -> Result<(), AllocError>
-    requires { Belongs rules.now board.now }
-    ensures { OnOk result (out.new.items ≡ out.old.items ++ legal_to rules.now board.now froms.now to) }
-{
-    for from in froms {
-        list_between(rules, board, to, *from, out)?;
-    }
-    Ok(())
-}
-
-/// Appends the legal carries to all these places.
-fn list_carries(
-    rules: &Rules,
-    board: &Board,
-    tos: &[Place],
-    froms: &[Place],
-    out: &mut Vec<Move>,
-) -> Result<(), AllocError>
-    requires { Belongs rules.now board.now }
-    ensures { OnOk result (out.new.items ≡ out.old.items ++ flat_map (legal_to rules.now board.now froms.now) tos.now) }
-{
-    for to in tos {
-        list_to(rules, board, *to, froms, out)?;
-    }
+    let free = free(offers);
+    list_onto(
+        rules,
+        table,
+        Kind::Foundations,
+        rules.foundation_count(),
+        offers,
+        free,
+        out,
+    )?;
+    list_to_hole(rules, table, offers, free, out)?;
+    list_onto(
+        rules,
+        table,
+        Kind::Slots,
+        rules.slot_count(),
+        offers,
+        free,
+        out,
+    )?;
+    list_onto(rules, table, Kind::Piles, rules.piles(), offers, free, out)?;
+    list_onto(rules, table, Kind::Cells, rules.cells(), offers, free, out)?;
     Ok(())
 }
 
 /// Appends the move, where it is legal.
-fn push_legal(rules: &Rules, board: &Board, m: Move, out: &mut Vec<Move>) -> Result<(), AllocError>
-    requires { Belongs rules.now board.now }
-    ensures { OnOk result (out.new.items ≡ out.old.items ++ filter (is_legal_move rules.now board.now) (m ∷ [])) }
+fn push_legal<T: Table>(
+    rules: &Rules,
+    table: &T,
+    m: Move,
+    out: &mut Vec<Move>,
+) -> Result<(), AllocError>
+    requires { Belongs rules.now (T.board table.now) }
+    ensures ok { OnOk result (out.new.items ≡ out.old.items ++ filter (is_legal_move rules.now (T.board table.now)) (m ∷ [])) }
+    ensures err { OnErr result (StartsWith out.new.items out.old.items) }
 {
-    if is_legal(rules, board, m) {
+    if is_legal(rules, table, m) {
         out.push(m)?;
     }
     Ok(())
 }
 
-/// The legal moves, in order.
-fn legal_moves(alloc: Global, rules: &Rules, board: &Board) -> Result<Vec<Move>, AllocError>
-    requires { Belongs rules.now board.now }
-    ensures { IfOk result (λ moves. moves.items ≡ legal_moves rules.now board.now) }
+/// Appends the legal moves.
+fn list_all<T: Table>(rules: &Rules, table: &T, out: &mut Vec<Move>) -> Result<(), AllocError>
+    requires { Belongs rules.now (T.board table.now) }
+    ensures ok { OnOk result (out.new.items ≡ out.old.items ++ legal_moves rules.now (T.board table.now)) }
+    ensures err { OnErr result (StartsWith out.new.items out.old.items) }
 {
-    let tos = targets(alloc, rules, board)?;
-    let froms = sources(alloc, rules, board)?;
-    let mut moves = Vec::with_capacity(alloc, USUAL_MOVES)?;
-    list_carries(rules, board, tos.as_slice(), froms.as_slice(), &mut moves)?;
-    push_legal(rules, board, Move::Deal, &mut moves)?;
-    push_legal(rules, board, Move::Redeal, &mut moves)?;
-    Ok(moves)
+    let mut offered = Offers::new();
+    offers(rules, table, &mut offered);
+    list_carries(rules, table, offered.as_slice(), out)?;
+    push_legal(rules, table, Move::Deal, out)?;
+    push_legal(rules, table, Move::Redeal, out)?;
+    Ok(())
 }
 
 /// Appends each legal move once, in the order of moves, and nothing else. After a refusal `out` is
 /// as before.
+pub fn list_moves_of<T: Table>(
+    rules: &Rules,
+    table: &T,
+    out: &mut Vec<Move>,
+) -> Result<(), NoMemory>
+    requires { Belongs rules.now (T.board table.now) }
+    ensures ok { OnOk result (out.new.items ≡ out.old.items ++ legal_moves rules.now (T.board table.now)) }
+    ensures err { OnErr result (out.new.items ≡ out.old.items) }
+{
+    let size = out.len();
+    match list_all(rules, table, out) {
+        Ok(()) => Ok(()),
+        Err(refused) => {
+            out.truncate(size);
+            Err(NoMemory::from(refused))
+        }
+    }
+}
+
+/// The same of a board.
 pub fn list_moves(
-    alloc: Global,
+    _alloc: Global,
     rules: &Rules,
     board: &Board,
     out: &mut Vec<Move>,
@@ -215,7 +259,5 @@ pub fn list_moves(
     ensures ok { OnOk result (out.new.items ≡ out.old.items ++ legal_moves rules.now board.now) }
     ensures err { OnErr result (out.new.items ≡ out.old.items) }
 {
-    let moves = legal_moves(alloc, rules, board)?;
-    out.extend_from_slice(moves.as_slice())?;
-    Ok(())
+    list_moves_of(rules, board, out)
 }

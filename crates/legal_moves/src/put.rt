@@ -1,137 +1,101 @@
 //! Where cards can be put.
-ghost use Rattle.std.specs.Prelude.{◌≡◌, ◌<◌, length, IsTrue};
-ghost use Rattle.game_rules.specs.Board.{top_of, has_place};
-ghost use Rattle.game_rules.specs.Putting.{fills_space, goes_on_pile, is_next_on, falls_in_suit, is_complete_run, are_neighbours, goes_in_hole, follows, fits_slot, can_put};
+ghost use Rattle.std.specs.Prelude.{◌≡◌, ◌≤◌, ◌<◌, ◌==◌, ◌&&◌, true, length, IsTrue};
+ghost use Rattle.card_piles.specs.Cards.{place_of};
+ghost use Rattle.game_rules.specs.Rules.{takes_complete_runs, foundation_suit};
+ghost use Rattle.game_rules.specs.Board.{pile_at, top_part, height_at, has_place};
+ghost use Rattle.game_rules.specs.Taking.{taken};
+ghost use Rattle.game_rules.specs.Putting.{falls_in_suit, is_complete_run, can_put};
+ghost use Rattle.legal_moves.specs.Fits.{takes_groups, is_asked_card_by_card};
+ghost use Rattle.game_rules.specs.Play.{is_legal_move};
+ghost use Rattle.legal_moves.specs.Offers.{IsGiven, carry_of};
 
-use card_piles::{Card, builds};
-use game_model::{Board, Rules, Spaces};
-use game_rules::Place;
+use crate::fit::fit_of;
+use crate::offers::Offer;
+use crate::places::are_apart;
+use card_piles::Card;
+use card_sets::CardSet;
+use game_model::{Rules, Table};
+use game_rules::{Place, suit_at};
 
-/// Whether a card of this rank may be the first on an empty pile.
-fn fills_space(spaces: Spaces, max_rank: u8, rank: u8) -> bool
-    ensures { result ≡ fills_space spaces max_rank rank }
+/// Whether several cards may be put on the place at once.
+pub(crate) fn takes_groups(to: Place) -> bool
+    ensures { result ≡ takes_groups to }
 {
-    match spaces {
-        Spaces::Any => true,
-        Spaces::King => rank == max_rank,
-        Spaces::NoFill => false,
+    matches!(to, Place::Tableau(_))
+}
+
+/// Whether the first card alone says what may be put on the place.
+pub(crate) fn is_asked_card_by_card(rules: &Rules, to: Place) -> bool
+    ensures { result ≡ is_asked_card_by_card rules.now to }
+{
+    match to {
+        Place::Foundation(_) => !rules.takes_complete_runs(),
+        _ => true,
     }
 }
 
-/// Whether the card goes on the pile.
-fn goes_on_pile(rules: &Rules, pile: &[Card], card: Card) -> bool
-    ensures { result ≡ goes_on_pile rules.now (top_of pile.now) card }
+/// Whether the card has the suit of a foundation, and the rank.
+fn is_of(f: u8, rank: u8, card: Card) -> bool
+    ensures { result ≡ ((place_of card.suit == foundation_suit f) && (card.rank == rank)) }
 {
-    match pile.last() {
-        None => fills_space(rules.spaces(), rules.max_rank(), card.rank()),
-        Some(top) => builds(rules.build(), rules.wrap(), rules.max_rank(), card, *top),
-    }
+    card.suit().place() == f % 4 && card.rank() == rank
 }
 
-/// Whether the card is the next one of a foundation.
-fn is_next_on(rules: &Rules, f: u8, height: u8, card: Card) -> bool
-    ensures { result ≡ is_next_on rules.now f height card }
+/// Whether the last cards of a pile fall to the ace in the suit of a foundation.
+fn falls_in_suit<T: Table>(table: &T, i: u8, f: u8, count: u8) -> bool
+    requires here { i < length (T.board table.now).piles }
+    requires enough { count ≤ length (pile_at (T.board table.now) i).cards }
+    ensures { result ≡ falls_in_suit f count (top_part count (pile_at (T.board table.now) i).cards) }
 {
-    height < rules.max_rank()
-        && card.suit().place() == f % 4
-        && card.rank() == rules.foundation_rank(height)
-}
-
-/// Whether the cards fall by one rank each, from the given rank, in the suit of a foundation.
-fn falls_in_suit(f: u8, rank: u8, cards: &[Card]) -> bool
-    ensures { result ≡ falls_in_suit f rank cards.now }
-{
-    match cards {
-        [] => true,
-        [card, rest @ ..] => {
-            card.suit().place() == f % 4
-                && card.rank() == rank
-                && falls_in_suit(f, rank.saturating_sub(1), rest)
+    let mut left = table.pile(i);
+    for depth in 0..count {
+        match table.top(left) {
+            None => return false,
+            Some(card) => {
+                if !is_of(f, depth + 1, card) {
+                    return false;
+                }
+            }
         }
+        left = table.under(left);
     }
+    true
 }
 
 /// Whether the cards are a whole run for an empty foundation.
-fn is_complete_run(rules: &Rules, f: u8, height: u8, cards: &[Card]) -> bool
-    ensures { result ≡ is_complete_run rules.now f height cards.now }
+fn is_complete_run<T: Table>(rules: &Rules, table: &T, given: Offer, f: u8, height: u8) -> bool
+    requires { IsGiven rules.now (T.board table.now) given }
+    ensures { result ≡ is_complete_run rules.now f height (taken rules.now (T.board table.now) given.from given.count) }
 {
     height == 0
-        && cards.len() == usize::from(rules.max_rank())
-        && falls_in_suit(f, rules.max_rank(), cards)
-}
-
-/// Whether the ranks are neighbours in the hole.
-fn are_neighbours(wrap: bool, max_rank: u8, a: u8, b: u8) -> bool
-    requires { (a < 14) × (b < 14) }
-    ensures { result ≡ are_neighbours wrap max_rank a b }
-{
-    a + 1 == b || b + 1 == a || wrap && (a == max_rank && b == 1 || b == max_rank && a == 1)
-}
-
-/// Whether the card goes on the hole's top.
-fn goes_in_hole(rules: &Rules, hole: &[Card], card: Card) -> bool
-    ensures { result ≡ goes_in_hole rules.now (top_of hole.now) card }
-{
-    match hole.last() {
-        None => true,
-        Some(top) => {
-            are_neighbours(
-                rules.hole_wraps(),
-                rules.max_rank(),
-                card.rank(),
-                top.rank(),
-            )
+        && given.count == rules.max_rank()
+        && match given.from {
+            Place::Tableau(i) => falls_in_suit(table, i, f, given.count),
+            _ => CardSet::none().with(suit_at(f % 4), 1).has_bit(given.bit),
         }
-    }
 }
 
-/// Whether the card goes right of another in a row.
-fn follows(left: Option<Card>, card: Card) -> bool
-    ensures { result ≡ follows left card }
+/// Whether what the table gives can be put on the place.
+pub(crate) fn can_put<T: Table>(rules: &Rules, table: &T, given: Offer, to: Place) -> bool
+    requires given { IsGiven rules.now (T.board table.now) given }
+    requires here { IsTrue (has_place rules.now (T.board table.now) to) }
+    ensures { result ≡ can_put rules.now (T.board table.now) to (taken rules.now (T.board table.now) given.from given.count) }
 {
-    match left {
-        None => false,
-        Some(left) => {
-            left.suit().place() == card.suit().place() && left.rank() + 1 == card.rank()
-        }
+    if !is_asked_card_by_card(rules, to) {
+        return match to {
+            Place::Foundation(f) => is_complete_run(rules, table, given, f, table.height(f)),
+            _ => false,
+        };
     }
+    (takes_groups(to) || given.count == 1) && fit_of(rules, table, to).has_bit(given.bit)
 }
 
-/// Whether the card fits the gap.
-fn fits_slot(rules: &Rules, board: &Board, i: u8, card: Card) -> bool
-    requires { i < length board.now.slots }
-    ensures { result ≡ fits_slot rules.now board.now i card }
+/// Whether what the table gives may go to the place.
+pub(crate) fn can_go<T: Table>(rules: &Rules, table: &T, given: Offer, to: Place) -> bool
+    requires given { IsGiven rules.now (T.board table.now) given }
+    requires here { IsTrue (has_place rules.now (T.board table.now) to) }
+    ensures { result ≡ is_legal_move rules.now (T.board table.now) (carry_of to given) }
 {
-    if i % rules.max_rank() == 0 {
-        card.rank() == 2
-    } else {
-        follows(board.slot(i - 1), card)
-    }
-}
-
-/// Whether the cards can be put on the place.
-pub(crate) fn can_put(rules: &Rules, board: &Board, to: Place, cards: &[Card]) -> bool
-    requires { IsTrue (has_place rules.now board.now to) }
-    ensures { result ≡ can_put rules.now board.now to cards.now }
-{
-    match cards {
-        [] => false,
-        [card, rest @ ..] => match to {
-            Place::Tableau(i) => goes_on_pile(rules, board.pile(i), *card),
-            Place::Cell(i) => rest.is_empty() && board.cell(i).is_none(),
-            Place::Foundation(f) => {
-                if rules.takes_complete_runs() {
-                    is_complete_run(rules, f, board.height(f), cards)
-                } else {
-                    rest.is_empty() && is_next_on(rules, f, board.height(f), *card)
-                }
-            }
-            Place::Hole => rest.is_empty() && goes_in_hole(rules, board.hole(), *card),
-            Place::Slot(i) => {
-                rest.is_empty() && board.slot(i).is_none() && fits_slot(rules, board, i, *card)
-            }
-            Place::Reserve(_) => false,
-            Place::Waste => false,
-        },
-    }
+    let Offer { from, .. } = given;
+    are_apart(from, to) && can_put(rules, table, given, to)
 }

@@ -1,17 +1,19 @@
 //! Which cards can be taken from a place.
-ghost use Rattle.std.specs.Prelude.{◌≡◌, ◌<◌, length, IsTrue};
-ghost use Rattle.game_rules.specs.Board.{suit_at, pile_at, foundation_top, has_place};
-ghost use Rattle.game_rules.specs.Taking.{is_run, pile_gives, single_at};
+ghost use Rattle.std.specs.Prelude.{◌≡◌, ◌≤◌, ◌<◌, length, IsTrue};
+ghost use Rattle.card_piles.specs.declared.Card.{Card};
+ghost use Rattle.game_rules.specs.Board.{pile_at, foundation_top, has_place};
+ghost use Rattle.game_rules.specs.Taking.{single_at};
 ghost use Rattle.game_rules.specs.Belonging.{Belongs};
+ghost use Rattle.legal_moves.specs.Runs.{next_down, most_given};
 
-use card_piles::{Card, Suit, builds};
-use game_model::{Board, Groups, Rules};
-use game_rules::Place;
+use card_piles::{Card, builds};
+use game_model::{Groups, Rules, Table};
+use game_rules::{Place, suit_at};
 
 /// Whether the board has this place.
-pub(crate) fn has_place(rules: &Rules, board: &Board, place: Place) -> bool
-    requires { Belongs rules.now board.now }
-    ensures { result ≡ has_place rules.now board.now place }
+pub(crate) fn has_place<T: Table>(rules: &Rules, table: &T, place: Place) -> bool
+    requires { Belongs rules.now (T.board table.now) }
+    ensures { result ≡ has_place rules.now (T.board table.now) place }
 {
     match place {
         Place::Tableau(i) => i < rules.piles(),
@@ -20,7 +22,7 @@ pub(crate) fn has_place(rules: &Rules, board: &Board, place: Place) -> bool
             if rules.stacked() {
                 i == 0
             } else {
-                usize::from(i) < board.reserve().len()
+                usize::from(i) < table.entry_count()
             }
         }
         Place::Waste => true,
@@ -30,48 +32,46 @@ pub(crate) fn has_place(rules: &Rules, board: &Board, place: Place) -> bool
     }
 }
 
-/// Whether each card but the first builds on the one before it.
-fn is_run(rules: &Rules, cards: &[Card]) -> bool
-    ensures { result ≡ is_run rules.now cards.now }
+/// How many cards of a pile are given at most, be they a run: those that lie face up, and one where groups do not move.
+pub(crate) fn most_given<T: Table>(rules: &Rules, table: &T, i: u8) -> usize
+    requires { i < length (T.board table.now).piles }
+    ensures { result ≡ most_given rules.now (pile_at (T.board table.now) i) }
 {
-    match cards {
-        [] => true,
-        [lower, rest @ ..] => match rest {
-            [] => true,
-            [upper, ..] => {
-                builds(
-                    rules.group_build(),
-                    rules.wrap(),
-                    rules.max_rank(),
-                    *upper,
-                    *lower,
-                ) && is_run(rules, rest)
-            }
-        },
+    let up = table
+        .size(i)
+        .saturating_sub(usize::from(table.face_down(i)));
+    match rules.groups() {
+        Groups::Run => up,
+        Groups::One => up.min(1),
     }
 }
 
-/// Whether a pile gives so many cards.
-pub(crate) fn pile_gives(rules: &Rules, board: &Board, i: u8, count: u8) -> bool
-    requires { i < length board.now.piles }
-    ensures { result ≡ pile_gives rules.now (pile_at board.now i) count }
+/// The next card of a run that is followed from its top: the upmost one that is left, where the card before it builds
+/// on it.
+pub(crate) fn next_down<T: Table>(
+    rules: &Rules,
+    table: &T,
+    left: T::Stack,
+    upper: Card,
+) -> Option<Card>
+    requires { T.stands table.now left }
+    ensures { result ≡ next_down rules.now (T.cards table.now left) upper }
 {
-    let cards = board.pile(i);
-    let many = usize::from(count);
-    0 < count
-        && usize::from(board.face_down(i)) + many <= cards.len()
-        && (count == 1 || matches!(rules.groups(), Groups::Run))
-        && is_run(rules, &cards[cards.len() - many..])
-}
-
-fn suit_at(place: u8) -> Suit
-    ensures { result ≡ suit_at place }
-{
-    match place {
-        0 => Suit::Clubs,
-        1 => Suit::Diamonds,
-        2 => Suit::Hearts,
-        _ => Suit::Spades,
+    match table.top(left) {
+        None => None,
+        Some(lower) => {
+            if builds(
+                rules.group_build(),
+                rules.wrap(),
+                rules.max_rank(),
+                upper,
+                lower,
+            ) {
+                Some(lower)
+            } else {
+                None
+            }
+        }
     }
 }
 
@@ -87,32 +87,29 @@ fn foundation_top(rules: &Rules, f: u8, height: u8) -> Option<Card>
 }
 
 /// The one card that a place other than a pile gives, if it gives one.
-pub(crate) fn single_at(rules: &Rules, board: &Board, place: Place) -> Option<Card>
-    requires { IsTrue (has_place rules.now board.now place) }
-    ensures { result ≡ single_at rules.now board.now place }
+pub fn single_at<T: Table>(rules: &Rules, table: &T, place: Place) -> Option<Card>
+    requires { IsTrue (has_place rules.now (T.board table.now) place) }
+    ensures { result ≡ single_at rules.now (T.board table.now) place }
 {
     match place {
         Place::Tableau(_) => None,
-        Place::Cell(i) => board.cell(i),
+        Place::Cell(i) => table.cell(i),
         Place::Reserve(i) => {
             if rules.stacked() {
-                match board.reserve().last() {
-                    Some(entry) => *entry,
-                    None => None,
-                }
+                table.last_entry()
             } else {
-                board.reserve()[usize::from(i)]
+                table.entry(i)
             }
         }
-        Place::Waste => board.waste().last().copied(),
+        Place::Waste => table.waste_top(),
         Place::Foundation(f) => {
             if rules.takes_back() {
-                foundation_top(rules, f, board.height(f))
+                foundation_top(rules, f, table.height(f))
             } else {
                 None
             }
         }
         Place::Hole => None,
-        Place::Slot(i) => board.slot(i),
+        Place::Slot(i) => table.slot(i),
     }
 }

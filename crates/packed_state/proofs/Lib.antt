@@ -3,5 +3,3 @@ pub mod Putting
 pub mod Taking
 pub mod Deals
 pub mod Returning
-pub mod Sources
-pub mod FullPlaces

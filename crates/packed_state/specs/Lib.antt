@@ -2,4 +2,3 @@ pub mod Noting
 pub mod Packed
 pub mod Spots
 pub mod Undoing
-pub mod Sources

@@ -9,13 +9,13 @@ ghost use Rattle.packed_state.specs.Packed.{board_of, is_stacked};
 ghost use Rattle.packed_state.specs.Spots.{card_at, size_at};
 ghost use Rattle.packed_state.specs.Undoing.{before};
 
-use crate::legal::is_legal;
 use crate::packing::packed_board;
 use crate::unpacking::parts_of;
 use crate::{Packed, Spot, Undo};
 use card_piles::{Card, NoMemory};
-use game_model::{Board, Rules};
+use game_model::{Board, Rules, is_won};
 use game_rules::Move;
+use legal_moves::{is_legal, list_moves_of};
 use std::alloc::Global;
 
 impl Packed {
@@ -55,7 +55,7 @@ impl Packed {
         ensures ok { OnOk result (out.new.items ≡ out.old.items ++ legal_moves rules.now (board_of self.now)) }
         ensures err { OnErr result (out.new.items ≡ out.old.items) }
     {
-        self.board.list_moves(rules, out)
+        list_moves_of(rules, &self.board, out)
     }
 
     /// Makes the move, and tells what it changed.
@@ -84,7 +84,7 @@ impl Packed {
         requires { Belongs rules.now (board_of self.now) }
         ensures { result ≡ is_won rules.now (board_of self.now) }
     {
-        self.board.is_won(rules)
+        is_won(rules, &self.board)
     }
 
     /// Whether the move is legal. Any move may be asked for.

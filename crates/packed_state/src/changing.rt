@@ -7,14 +7,14 @@ ghost use Rattle.game_rules.specs.Putting.{with_cards};
 ghost use Rattle.game_rules.specs.Play.{after_redeal};
 ghost use Rattle.packed_state.specs.Undoing.{has_room};
 
-use crate::{PackedBoard, PackedCard, PackedPile};
+use crate::{PackedBoard, PackedPile};
 use arrayvec::ArrayVec;
 use card_piles::Card;
 use game_model::Rules;
 use game_rules::{Place, Redeals};
 
 /// Puts cards at the end of a fixed list that has room for them.
-pub(crate) fn append<const CAP: usize>(list: &mut ArrayVec<PackedCard, CAP>, cards: &[PackedCard])
+pub(crate) fn append<const CAP: usize>(list: &mut ArrayVec<Card, CAP>, cards: &[Card])
     requires { array_vec_len list.old + length cards.now ≤ CAP }
     ensures { list.new.items ≡ list.old.items ++ cards.now }
 {
@@ -22,17 +22,17 @@ pub(crate) fn append<const CAP: usize>(list: &mut ArrayVec<PackedCard, CAP>, car
 }
 
 /// The first card of a list.
-pub(crate) fn first_of(cards: &[PackedCard]) -> Option<Card>
+pub(crate) fn first_of(cards: &[Card]) -> Option<Card>
     ensures { result ≡ slice_get cards.now 0 }
 {
     match cards {
         [] => None,
-        [card, ..] => Some(card.card()),
+        [card, ..] => Some(*card),
     }
 }
 
 impl PackedPile {
-    pub(crate) fn put(&mut self, cards: &[PackedCard])
+    pub(crate) fn put(&mut self, cards: &[Card])
         requires { length self.old.cards + length cards.now ≤ 104 }
         ensures { self.new ≡ record { cards = self.old.cards ++ cards.now; face_down = self.old.face_down } }
     {
@@ -53,7 +53,7 @@ impl PackedPile {
 
 impl PackedBoard {
     /// Puts cards on a place of the board.
-    pub(crate) fn put(&mut self, to: Place, cards: &[PackedCard])
+    pub(crate) fn put(&mut self, to: Place, cards: &[Card])
         requires room { IsTrue (has_room false self.old to (length cards.now)) }
         ensures { self.new ≡ with_cards self.old to cards.now }
     {

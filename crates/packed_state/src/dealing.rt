@@ -11,12 +11,13 @@ ghost use Rattle.packed_state.specs.Noting.{HasSpareCards};
 ghost use Rattle.packed_state.specs.declared.Undo.TheVariants.{Dealt};
 
 use crate::changing::append;
-use crate::{PackedBoard, PackedCard, PackedPile, Undo};
+use crate::{PackedBoard, PackedPile, Undo};
 use arrayvec::ArrayVec;
+use card_piles::Card;
 use game_rules::Target;
 
 /// Turns the cards from a place on the other way round.
-fn reverse_from(cards: &mut [PackedCard], from: usize)
+fn reverse_from(cards: &mut [Card], from: usize)
     requires { from ≤ length cards.old }
     ensures { cards.new ≡ take from cards.old ++ reverse (drop from cards.old) }
 {
@@ -24,7 +25,7 @@ fn reverse_from(cards: &mut [PackedCard], from: usize)
 }
 
 /// Puts cards at the end of a list, the last card first.
-fn append_reversed(list: &mut ArrayVec<PackedCard, 104>, cards: &[PackedCard])
+fn append_reversed(list: &mut ArrayVec<Card, 104>, cards: &[Card])
     requires { array_vec_len list.old + length cards.now ≤ 104 }
     ensures { list.new.items ≡ list.old.items ++ reverse cards.now }
 {
@@ -34,7 +35,7 @@ fn append_reversed(list: &mut ArrayVec<PackedCard, 104>, cards: &[PackedCard])
 }
 
 /// Puts one card on each of the first piles, the last card first.
-fn deal_each(piles: &mut [PackedPile], cards: &[PackedCard])
+fn deal_each(piles: &mut [PackedPile], cards: &[Card])
     requires { HasSpareCards piles.old }
     ensures { piles.new ≡ dealt_each (reverse cards.now) piles.old }
 {
@@ -47,7 +48,7 @@ fn deal_each(piles: &mut [PackedPile], cards: &[PackedCard])
 }
 
 /// Takes the tops of the first piles back, the first pile's last.
-fn undeal_each(piles: &mut [PackedPile], count: u8, stock: &mut ArrayVec<PackedCard, 104>)
+fn undeal_each(piles: &mut [PackedPile], count: u8, stock: &mut ArrayVec<Card, 104>)
     requires { array_vec_len stock.old + count ≤ 104 }
     ensures piles { piles.new ≡ without_tops count piles.old }
     ensures stock { stock.new.items ≡ stock.old.items ++ tops_of count piles.old }
@@ -65,14 +66,14 @@ fn undeal_each(piles: &mut [PackedPile], count: u8, stock: &mut ArrayVec<PackedC
 }
 
 impl PackedPile {
-    fn deal(&mut self, card: PackedCard)
+    fn deal(&mut self, card: Card)
         requires { length self.old.cards < 104 }
         ensures { self.new ≡ record { cards = self.old.cards ++ card ∷ []; face_down = self.old.face_down } }
     {
         self.cards.push(card);
     }
 
-    fn undeal(&mut self) -> Option<PackedCard>
+    fn undeal(&mut self) -> Option<Card>
         ensures rest { self.new ≡ record { cards = below_top 1 self.old.cards; face_down = self.old.face_down } }
         ensures top { result ≡ top_of self.old.cards }
     {

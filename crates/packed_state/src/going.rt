@@ -7,14 +7,15 @@ ghost use Rattle.game_rules.specs.Taking.{taken};
 ghost use Rattle.packed_state.specs.Noting.{face_down_at, noted_on, undo_of, IsFew};
 
 use crate::changing::append;
-use crate::take::single_at;
-use crate::{PackedBoard, PackedCard, Undo};
+use crate::{PackedBoard, Undo};
 use arrayvec::ArrayVec;
+use card_piles::Card;
 use game_model::Rules;
 use game_rules::{Move, Place, Target};
+use legal_moves::single_at;
 
 /// The cards that a legal carry moves.
-fn taken(rules: &Rules, board: &PackedBoard, from: Place, count: u8) -> ArrayVec<PackedCard, 104>
+fn taken(rules: &Rules, board: &PackedBoard, from: Place, count: u8) -> ArrayVec<Card, 104>
     requires place { IsTrue (has_place rules.now board.now from) }
     requires enough { IsTrue (has_cards board.now from count) }
     ensures { result.items ≡ taken rules.now board.now from count }
@@ -27,7 +28,7 @@ fn taken(rules: &Rules, board: &PackedBoard, from: Place, count: u8) -> ArrayVec
         }
         _ => {
             if let Some(card) = single_at(rules, board, from) {
-                cards.push(PackedCard::of(card));
+                cards.push(card);
             }
         }
     }
@@ -35,7 +36,7 @@ fn taken(rules: &Rules, board: &PackedBoard, from: Place, count: u8) -> ArrayVec
 }
 
 /// The cards that go on a foundation, and none of another place.
-fn noted_on(to: Place, cards: &[PackedCard]) -> ArrayVec<PackedCard, 13>
+fn noted_on(to: Place, cards: &[Card]) -> ArrayVec<Card, 13>
     requires { IsFew to cards.now }
     ensures { result.items ≡ noted_on to cards.now }
 {

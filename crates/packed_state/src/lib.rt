@@ -12,23 +12,19 @@ mod calls;
 mod changing;
 mod dealing;
 mod going;
-mod legal;
-mod listing;
 mod packing;
 #[cfg(test)]
 mod profiles;
-mod put;
 mod reading;
 mod spots;
-mod take;
+mod table;
 #[cfg(test)]
 mod tests;
 mod undoing;
 mod unpacking;
-mod winning;
 
 use arrayvec::ArrayVec;
-use card_piles::{Card, Suit};
+use card_piles::Card;
 use game_rules::{Place, Target};
 use std::marker::Model;
 
@@ -53,60 +49,10 @@ pub enum Spot {
     Slot(u8),
 }
 
-/// A kind of places that are numbered.
-#[derive(Clone, Copy)]
-enum Kind {
-    Piles,
-    Cells,
-    Entries,
-    Foundations,
-    Slots,
-}
-
-/// A place that cards are taken from, and how many it gives at most.
-#[derive(Clone, Copy)]
-struct Source {
-    place: Place,
-    most: u8,
-}
-
-impl Default for Source {
-    fn default() -> Source {
-        Source {
-            place: Place::Waste,
-            most: 0,
-        }
-    }
-}
-
-/// A card that stands in a fixed list.
-#[derive(Clone, Copy, Debug)]
-pub struct PackedCard {
-    card: Card,
-}
-
-impl Model for PackedCard {
-    ghost use Rattle.card_piles.specs.declared.Card.{Card};
-
-    ghost Value = { Card };
-
-    ghost view = { λ c. c.card };
-
-    ghost inverse = { λ c. record { card = c } };
-}
-
-impl Default for PackedCard {
-    fn default() -> PackedCard {
-        PackedCard {
-            card: Card::new(Suit::Clubs, 1).unwrap(),
-        }
-    }
-}
-
 /// A tableau pile in a fixed list.
 #[derive(Debug, Default, Drop)]
 struct PackedPile {
-    cards: ArrayVec<PackedCard, 104>,
+    cards: ArrayVec<Card, 104>,
     face_down: u8,
 }
 
@@ -124,11 +70,11 @@ struct PackedBoard {
     piles: ArrayVec<PackedPile, 20>,
     cells: ArrayVec<Option<Card>, 16>,
     reserve: ArrayVec<Option<Card>, 52>,
-    stock: ArrayVec<PackedCard, 104>,
-    waste: ArrayVec<PackedCard, 104>,
+    stock: ArrayVec<Card, 104>,
+    waste: ArrayVec<Card, 104>,
     redeals_left: u8,
     heights: ArrayVec<u8, 8>,
-    hole: ArrayVec<PackedCard, 104>,
+    hole: ArrayVec<Card, 104>,
     slots: ArrayVec<Option<Card>, 104>,
 }
 
@@ -170,7 +116,7 @@ pub enum Undo {
         count: u8,
         face_down: u8,
         stacked: bool,
-        noted: ArrayVec<PackedCard, 13>,
+        noted: ArrayVec<Card, 13>,
     },
     /// The stock dealt so many cards.
     Dealt {

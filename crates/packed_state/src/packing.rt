@@ -3,18 +3,18 @@ ghost use Rattle.std.specs.Prelude.{◌≡◌, ℕ, ◌≤◌, length};
 ghost use Rattle.game_rules.specs.Board.{pile_at};
 ghost use Rattle.game_rules.specs.Belonging.{Belongs, HasFewCards};
 
-use crate::{PackedBoard, PackedCard, PackedPile};
+use crate::{PackedBoard, PackedPile};
 use arrayvec::ArrayVec;
 use card_piles::Card;
 use game_model::{Board, Rules};
 
-fn packed_cards(cards: &[Card]) -> ArrayVec<PackedCard, 104>
+fn packed_cards(cards: &[Card]) -> ArrayVec<Card, 104>
     requires { length cards.now ≤ 104 }
     ensures { result.items ≡ cards.now }
 {
     let mut out = ArrayVec::new();
     for card in cards {
-        out.push(PackedCard::of(*card));
+        out.push(*card);
     }
     out
 }

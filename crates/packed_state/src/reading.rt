@@ -2,25 +2,11 @@
 ghost use Rattle.std.specs.Prelude.{◌≡◌, ◌<◌, ◌≤◌, length};
 ghost use Rattle.game_rules.specs.Board.{pile_at, entry_at, height_at};
 
-use crate::{PackedBoard, PackedCard, PackedPile};
+use crate::{PackedBoard, PackedPile};
 use card_piles::Card;
 
-impl PackedCard {
-    pub(crate) fn of(card: Card) -> PackedCard
-        ensures { result ≡ card }
-    {
-        PackedCard { card }
-    }
-
-    pub(crate) fn card(&self) -> Card
-        ensures { result ≡ self.now }
-    {
-        self.card
-    }
-}
-
 impl PackedPile {
-    pub(crate) fn cards(&self) -> &[PackedCard]
+    pub(crate) fn cards(&self) -> &[Card]
         ensures value { result.now ≡ self.now.cards }
         ensures fits { length result.now ≤ 104 }
     {
@@ -35,7 +21,7 @@ impl PackedPile {
 }
 
 impl PackedBoard {
-    pub(crate) fn pile(&self, i: u8) -> &[PackedCard]
+    pub(crate) fn pile(&self, i: u8) -> &[Card]
         requires { i < length self.now.piles }
         ensures value { result.now ≡ (pile_at self.now i).cards }
         ensures fits { length result.now ≤ 104 }
@@ -64,14 +50,14 @@ impl PackedBoard {
         self.reserve.as_slice()
     }
 
-    pub(crate) fn stock(&self) -> &[PackedCard]
+    pub(crate) fn stock(&self) -> &[Card]
         ensures value { result.now ≡ self.now.stock }
         ensures fits { length result.now ≤ 104 }
     {
         self.stock.as_slice()
     }
 
-    pub(crate) fn waste(&self) -> &[PackedCard]
+    pub(crate) fn waste(&self) -> &[Card]
         ensures value { result.now ≡ self.now.waste }
         ensures fits { length result.now ≤ 104 }
     {
@@ -91,7 +77,7 @@ impl PackedBoard {
         self.heights.as_slice()[usize::from(f)]
     }
 
-    pub(crate) fn hole(&self) -> &[PackedCard]
+    pub(crate) fn hole(&self) -> &[Card]
         ensures value { result.now ≡ self.now.hole }
         ensures fits { length result.now ≤ 104 }
     {

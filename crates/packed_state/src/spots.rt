@@ -3,15 +3,15 @@ ghost use Rattle.std.specs.Prelude.{◌≡◌, ◌<◌, ◌≤◌, length};
 ghost use Rattle.game_rules.specs.Board.{pile_at, entry_at};
 ghost use Rattle.packed_state.specs.Spots.{under_top, in_entry, in_reserve, card_at, entry_size, size_at};
 
-use crate::{PackedBoard, PackedCard, Spot};
+use crate::{PackedBoard, Spot};
 use card_piles::Card;
 
-fn under_top(cards: &[PackedCard], depth: u8) -> Option<Card>
+fn under_top(cards: &[Card], depth: u8) -> Option<Card>
     ensures { result ≡ under_top cards.now depth }
 {
     let depth = usize::from(depth);
     if depth < cards.len() {
-        Some(cards[cards.len() - 1 - depth].card())
+        Some(cards[cards.len() - 1 - depth])
     } else {
         None
     }
@@ -53,7 +53,7 @@ fn entry_size(entry: Option<Card>) -> u8
     if entry.is_some() { 1 } else { 0 }
 }
 
-fn few(cards: &[PackedCard]) -> u8
+fn few(cards: &[Card]) -> u8
     requires { length cards.now ≤ 104 }
     ensures { result ≡ length cards.now }
 {
@@ -62,7 +62,7 @@ fn few(cards: &[PackedCard]) -> u8
 
 impl PackedBoard {
     /// The cards of a pile, and none where there is no such pile.
-    fn pile_or_none(&self, i: u8) -> &[PackedCard]
+    fn pile_or_none(&self, i: u8) -> &[Card]
         ensures value { result.now ≡ (pile_at self.now i).cards }
         ensures fits { length result.now ≤ 104 }
     {

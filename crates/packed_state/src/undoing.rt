@@ -7,23 +7,23 @@ ghost use Rattle.packed_state.specs.Undoing.{has_room, last_put, without_last_pu
 ghost use Rattle.packed_state.specs.declared.Undo.TheVariants.{Redealt};
 
 use crate::changing::{append, first_of};
-use crate::{PackedBoard, PackedCard, PackedPile, Undo};
+use crate::{PackedBoard, PackedPile, Undo};
 use arrayvec::ArrayVec;
 use card_piles::Card;
 use game_rules::Place;
 
 /// The card of an entry as a list.
-fn append_entry(list: &mut ArrayVec<PackedCard, 104>, entry: Option<Card>)
+fn append_entry(list: &mut ArrayVec<Card, 104>, entry: Option<Card>)
     requires { list.old.items ≡ [] }
     ensures { list.new.items ≡ option_to_list entry }
 {
     if let Some(card) = entry {
-        list.push(PackedCard::of(card));
+        list.push(card);
     }
 }
 
 /// The last cards of a list, and all where it has fewer.
-fn append_last(list: &mut ArrayVec<PackedCard, 104>, cards: &[PackedCard], count: u8)
+fn append_last(list: &mut ArrayVec<Card, 104>, cards: &[Card], count: u8)
     requires empty { list.old.items ≡ [] }
     requires few { length cards.now ≤ 104 }
     ensures { list.new.items ≡ top_part count cards.now }
@@ -40,7 +40,7 @@ impl PackedPile {
         self.cards.truncate(left);
     }
 
-    fn take_back(&mut self, face_down: u8, cards: &[PackedCard])
+    fn take_back(&mut self, face_down: u8, cards: &[Card])
         requires { length self.old.cards + length cards.now ≤ 104 }
         ensures { self.new ≡ record { cards = self.old.cards ++ cards.now; face_down = face_down } }
     {
@@ -51,7 +51,7 @@ impl PackedPile {
 
 impl PackedBoard {
     /// The last cards of a place that they were put on.
-    fn last_put(&self, to: Place, count: u8, noted: &[PackedCard]) -> ArrayVec<PackedCard, 104>
+    fn last_put(&self, to: Place, count: u8, noted: &[Card]) -> ArrayVec<Card, 104>
         requires place { IsTrue (has_entry self.now to) }
         requires few { length noted.now ≤ 13 }
         ensures { result.items ≡ last_put self.now to count noted.now }
@@ -99,7 +99,7 @@ impl PackedBoard {
         }
     }
 
-    fn give_back_to_reserve(&mut self, i: u8, stacked: bool, cards: &[PackedCard])
+    fn give_back_to_reserve(&mut self, i: u8, stacked: bool, cards: &[Card])
         requires { IsTrue (has_room stacked self.old (Place.Reserve i) (length cards.now)) }
         ensures { self.new ≡ with_back stacked 0 self.old (Place.Reserve i) cards.now }
     {
@@ -111,7 +111,7 @@ impl PackedBoard {
     }
 
     /// Puts cards back on the place that they were taken from.
-    fn give_back(&mut self, from: Place, stacked: bool, face_down: u8, cards: &[PackedCard])
+    fn give_back(&mut self, from: Place, stacked: bool, face_down: u8, cards: &[Card])
         requires { IsTrue (has_room stacked self.old from (length cards.now)) }
         ensures { self.new ≡ with_back stacked face_down self.old from cards.now }
     {

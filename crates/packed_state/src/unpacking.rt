@@ -5,19 +5,19 @@ ghost use Rattle.game_rules.specs.Winning.{row_at};
 ghost use Rattle.game_rules.specs.Position.{parts_of, row_count};
 ghost use Rattle.game_rules.specs.Belonging.{Belongs};
 
-use crate::{PackedBoard, PackedCard, PackedPile};
+use crate::{PackedBoard, PackedPile};
 use card_piles::Card;
 use game_model::Rules;
 use game_rules::BoardParts;
 use item_list::Items;
 use std::alloc::{AllocError, Global};
 
-fn cards_of(alloc: Global, cards: &[PackedCard]) -> Result<Items<Card>, AllocError>
+fn cards_of(alloc: Global, cards: &[Card]) -> Result<Items<Card>, AllocError>
     ensures { IfOk result (λ list. list ≡ cards.now) }
 {
     let mut out = Items::new(alloc);
     for card in cards {
-        out.push(card.card())?;
+        out.push(*card)?;
     }
     Ok(out)
 }

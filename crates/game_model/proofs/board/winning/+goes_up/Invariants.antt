@@ -1,5 +1,0 @@
-use Rattle.std.proofs.Common.{length}
-use Rattle.game_model.proofs.board.winning.+goes_up.Given as goal
-
-abbrev pub decreases-goes_up : goal.decreases-goes_up
-decreases-goes_up l = length l.slots.now

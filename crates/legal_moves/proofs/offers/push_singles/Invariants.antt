@@ -1,0 +1,18 @@
+use Rattle.std.proofs.Common.{◌≡◌, ◌+◌, ◌≤◌, ◌++◌}
+use Rattle.std.specs.Prelude.{map}
+use Rattle.std.specs.List.{All, range_with_len}
+use Rattle.arrayvec.specs.ArrayVec.{array_vec_len}
+use Rattle.game_rules.specs.declared.Place.{Place}
+use Rattle.game_rules.proofs.Listing.{legal_to}
+use Rattle.legal_moves.specs.Kinds.{place_in}
+use Rattle.legal_moves.specs.Offers.{IsGiven, legal_of}
+use Rattle.legal_moves.proofs.offers.push_singles.Given as goal
+
+abbrev pub invariant-loop-i : goal.invariant-loop-i
+invariant-loop-i g l = record {
+  legal : (to : Place) → legal_of l.rules (g.T.Table.board l.table) l.offers.items to
+      ≡ legal_of l.rules (g.T.Table.board l.table) l.initial.offers.items to
+      ++ legal_to l.rules (g.T.Table.board l.table) (map (place_in l.fn.kind) (range_with_len 0 l.i)) to;
+  given : All (IsGiven l.rules (g.T.Table.board l.table)) l.offers.items;
+  len : array_vec_len l.offers ≤ array_vec_len l.initial.offers + l.i;
+}

@@ -1,0 +1,96 @@
+//! A packed board as a table of cards.
+ghost use Rattle.std.specs.Prelude.{◌≤◌, ◌<◌, take, length};
+ghost use Rattle.game_rules.specs.Board.{pile_at};
+
+use crate::PackedBoard;
+use card_piles::Card;
+use game_model::{Lowest, Table};
+
+impl Table for PackedBoard {
+    type Stack = Lowest;
+
+    ghost board = { λ b. b };
+
+    ghost stands = { λ b s. (s.pile < length b.piles) × (s.size ≤ length (pile_at b s.pile).cards) };
+
+    ghost cards = { λ b s. take s.size (pile_at b s.pile).cards };
+
+    fn pile(&self, i: u8) -> Lowest {
+        Lowest {
+            pile: i,
+            size: self.pile(i).len(),
+        }
+    }
+
+    fn top(&self, stack: Lowest) -> Option<Card> {
+        if stack.size == 0 {
+            None
+        } else {
+            Some(self.pile(stack.pile)[stack.size - 1])
+        }
+    }
+
+    fn under(&self, stack: Lowest) -> Lowest {
+        Lowest {
+            pile: stack.pile,
+            size: stack.size.saturating_sub(1),
+        }
+    }
+
+    fn size(&self, i: u8) -> usize {
+        self.pile(i).len()
+    }
+
+    fn face_down(&self, i: u8) -> u8 {
+        self.face_down(i)
+    }
+
+    fn cell(&self, i: u8) -> Option<Card> {
+        self.cell(i)
+    }
+
+    fn entry_count(&self) -> usize {
+        self.reserve().len()
+    }
+
+    fn entry(&self, i: u8) -> Option<Card> {
+        self.reserve()[usize::from(i)]
+    }
+
+    fn last_entry(&self) -> Option<Card> {
+        match self.reserve().last() {
+            Some(entry) => *entry,
+            None => None,
+        }
+    }
+
+    fn stock_size(&self) -> usize {
+        self.stock().len()
+    }
+
+    fn waste_top(&self) -> Option<Card> {
+        match self.waste().last() {
+            Some(card) => Some(*card),
+            None => None,
+        }
+    }
+
+    fn redeals_left(&self) -> u8 {
+        self.redeals_left()
+    }
+
+    fn height(&self, f: u8) -> u8 {
+        self.height(f)
+    }
+
+    fn hole_top(&self) -> Option<Card> {
+        match self.hole().last() {
+            Some(card) => Some(*card),
+            None => None,
+        }
+    }
+
+    fn slot(&self, i: u8) -> Option<Card> {
+        self.slot(i)
+    }
+}
