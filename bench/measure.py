@@ -3,17 +3,19 @@
 
 usage: bench/measure.py [PROGRAM [PROGRAM]] [--nodes N] [--cache N] [--rounds N]
 
-PROGRAM is the built program, crates/patience/out/patience if none is given. With two, the first is the one of before: both
-solve each deal in turn, as often as there are rounds, and the last column is how many times as many nodes a second
-the second one expands. N is 100,000 nodes and 5 rounds if left out, and the cache is the program's own.
+PROGRAM is the built program, crates/patience/out/patience if none is given. With two, the first is the one of before:
+both solve each deal in turn, as often as there are rounds, and the last column says how many times as many nodes a
+second the later one expands. N is 100,000 nodes and 5 rounds if left out, and the cache is the program's own.
 
-The time is what the processor spent on the run, in the program and for it in the system, as `wait4` tells it, so that
-other work of the machine counts for little; of all rounds the least time is taken. The memory is the most that the system
-counted for the run (the high-water mark of its resident set), the program's own pages included.
+The time is what the processor spent on the run, in the program and for it in the system, as `wait4` counts it, so that
+other work of the machine counts for little; the least of all rounds is taken. The memory is the most that the system
+counted for the run while it went on (the high-water mark of its resident set, on Linux), the program's own pages
+included.
 """
 import os
 import sys
 import tempfile
+import time
 
 TOP = os.path.dirname(os.path.dirname(os.path.abspath(__file__)))
 
@@ -24,17 +26,32 @@ DEALS = [
 ]
 
 
+def high_water(process):
+    """The most bytes that the process has held so far, and 0 if it is gone."""
+    try:
+        with open(f"/proc/{process}/status") as status:
+            for line in status:
+                if line.startswith("VmHWM:"):
+                    return int(line.split()[1]) * 1024
+    except OSError:
+        pass
+    return 0
+
+
 def run(words):
     """The output, the seconds of processor time and the bytes of one run."""
     with tempfile.TemporaryFile() as out:
-        child = os.posix_spawn(words[0], words, os.environ, file_actions=[(os.POSIX_SPAWN_DUP2, out.fileno(), 1)])
-        _, status, spent = os.wait4(child, 0)
+        process = os.posix_spawn(words[0], words, os.environ, file_actions=[(os.POSIX_SPAWN_DUP2, out.fileno(), 1)])
+        memory, ended = 0, 0
+        while ended == 0:
+            memory = max(memory, high_water(process))
+            time.sleep(0.002)
+            ended, status, spent = os.wait4(process, os.WNOHANG)
         out.seek(0)
         text = out.read().decode()
     if status != 0:
         sys.exit(f"{' '.join(words)}: status {os.waitstatus_to_exitcode(status)}: {text}")
-    # Linux counts the resident set in units of 1,024 bytes.
-    return text, spent.ru_utime + spent.ru_stime, spent.ru_maxrss * 1024
+    return text, spent.ru_utime + spent.ru_stime, memory
 
 
 def measure(programs, words, rounds):
@@ -42,10 +59,10 @@ def measure(programs, words, rounds):
     texts, seconds, bytes_held = [None] * len(programs), [float("inf")] * len(programs), [0] * len(programs)
     for _ in range(rounds):
         for i, program in enumerate(programs):
-            text, time, held = run([program, *words])
+            text, spent, held = run([program, *words])
             if texts[i] not in (None, text):
                 sys.exit(f"{program}: two runs gave two answers")
-            texts[i], seconds[i], bytes_held[i] = text, min(seconds[i], time), max(bytes_held[i], held)
+            texts[i], seconds[i], bytes_held[i] = text, min(seconds[i], spent), max(bytes_held[i], held)
     return texts, seconds, bytes_held
 
 

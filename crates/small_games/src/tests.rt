@@ -16,6 +16,12 @@ fn a_small_game_is_read(rt: HostRuntime) -> Result<(), Fail> {
     assert!(rt; same_boards(&rules, &copy, &left));
     assert!(rt; !same_boards(&rules, &home, &left));
     let m = move_of("t0 t1 2");
-    assert!(rt; m == Move::Carry { from: Place::Tableau(0), to: Place::Tableau(1), count: 2 });
+    assert!(rt;
+        m == Move::Carry {
+            from: Place::Tableau(0),
+            to: Place::Tableau(1),
+            count: 2
+        }
+    );
     Ok(())
 }
