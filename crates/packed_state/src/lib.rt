@@ -13,8 +13,6 @@ mod changing;
 mod dealing;
 mod going;
 mod packing;
-#[cfg(test)]
-mod profiles;
 mod reading;
 mod spots;
 mod table;

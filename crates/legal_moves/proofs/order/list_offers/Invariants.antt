@@ -1,6 +1,6 @@
 use Rattle.std.proofs.Common.{◌≡◌, ◌++◌, take}
 use Rattle.legal_moves.specs.Offers.{legal_of}
-use Rattle.legal_moves.proofs.order.list_fitting.Given as goal
+use Rattle.legal_moves.proofs.order.list_offers.Given as goal
 
 abbrev pub invariant-loop-offer : goal.invariant-loop-offer
 invariant-loop-offer g l =

@@ -7,8 +7,8 @@ use Rattle.std.proofs.lemmas.List.Elements.{All-get_or}
 use Rattle.legal_moves.specs.declared.offers.Offer.{Offer}
 use Rattle.legal_moves.specs.Offers.{IsGiven, carry_of, legal_of}
 use Rattle.legal_moves.proofs.Offered.{legal-fitted, legal_of-more_legal, legal_of-more_not}
-use Rattle.legal_moves.proofs.order.list_runs.Goals.{then-can_go+in_ok-push, else-can_go}
-use Rattle.legal_moves.proofs.order.list_runs.Goals as goal
+use Rattle.legal_moves.proofs.order.list_offers.Goals.{then-may_go+in_ok-push, else-may_go}
+use Rattle.legal_moves.proofs.order.list_offers.Goals as goal
 
 pub loop-offer-preserved : goal.loop-offer-preserved
 loop-offer-preserved g c =
@@ -18,20 +18,20 @@ loop-offer-preserved g c =
     let blank : Offer = record { from = Tableau 0; count = 0; bit = record { place = 0 } } in
     let item : Offer = get_or offers c.loop-offer.offer-index blank in
     let given : IsGiven rules board item = All-get_or (IsGiven rules board) offers c.loop-offer.offer-index blank c.loop-offer-test.true c.requires.given in
-    let legal : is_legal_move rules board (carry_of c.args.to item) ≡ c.can_go.result = sym c.can_go.ensures in
-    elim c.if-can_go.branch [
-      | then-can_go+in_ok-push w ↦
+    let legal : is_legal_move rules board (carry_of c.args.to item) ≡ c.may_go.result = sym c.may_go.ensures in
+    elim c.if-may_go.branch [
+      | then-may_go+in_ok-push w ↦
           rw (
             w.out-is,
             w.in_ok-push.ensures.items,
             c.loop-offer.invariant,
-            legal_of-more_legal rules board offers c.loop-offer.offer-index blank c.args.to c.loop-offer-test.true (legal ∙ w.if-can_go.true),
+            legal_of-more_legal rules board offers c.loop-offer.offer-index blank c.args.to c.loop-offer-test.true (legal ∙ w.if-may_go.true),
           )
           (simp append_assoc (refl {A = List Move}))
-      | else-can_go w ↦
+      | else-may_go w ↦
           rw (
             w.out-is,
             c.loop-offer.invariant,
-            legal_of-more_not rules board offers c.loop-offer.offer-index blank c.args.to c.loop-offer-test.true (legal ∙ w.if-can_go.false),
+            legal_of-more_not rules board offers c.loop-offer.offer-index blank c.args.to c.loop-offer-test.true (legal ∙ w.if-may_go.false),
           ) refl
     ]

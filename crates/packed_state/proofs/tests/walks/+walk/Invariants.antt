@@ -1,5 +1,5 @@
 use Rattle.std.proofs.Common.{◌≡◌}
-use Rattle.packed_state.proofs.profiles.+walk.Given as goal
+use Rattle.packed_state.proofs.tests.walks.+walk.Given as goal
 
 abbrev pub decreases-walk : goal.decreases-walk
 decreases-walk l = l.depth
