@@ -16,6 +16,7 @@ mod packing;
 #[cfg(test)]
 mod profiles;
 mod reading;
+mod rows;
 mod spots;
 mod table;
 #[cfg(test)]
