@@ -14,6 +14,7 @@ mod dealing;
 mod going;
 mod packing;
 mod reading;
+mod rows;
 mod spots;
 mod table;
 #[cfg(test)]
