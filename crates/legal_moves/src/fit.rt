@@ -9,21 +9,10 @@ ghost use Rattle.game_rules.specs.Board.{has_place};
 ghost use Rattle.game_rules.specs.Putting.{fills_space, goes_on_pile, is_next_on, are_neighbours, goes_in_hole, follows, fits_slot};
 ghost use Rattle.legal_moves.specs.Fits.{Fits, is_asked_card_by_card};
 
-use card_piles::{Build, Card, Suit};
+use card_piles::{Card, Suit, suits_fit};
 use card_sets::CardSet;
 use game_model::{Rules, Spaces, Table};
 use game_rules::{Place, suit_at};
-
-fn suits_fit(build: Build, upper: Suit, lower: Suit) -> bool
-    ensures { result ≡ suits_fit build upper lower }
-{
-    match build {
-        Build::NoBuild => false,
-        Build::AnySuit => true,
-        Build::RedBlack => upper.is_red() != lower.is_red(),
-        Build::SameSuit => upper.place() == lower.place(),
-    }
-}
 
 /// The set with the cards of a rank.
 fn with_rank(set: CardSet, rank: u8) -> CardSet

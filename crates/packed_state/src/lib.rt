@@ -13,9 +13,8 @@ mod changing;
 mod dealing;
 mod going;
 mod packing;
-#[cfg(test)]
-mod profiles;
 mod reading;
+mod rows;
 mod spots;
 mod table;
 #[cfg(test)]

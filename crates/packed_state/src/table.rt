@@ -16,25 +16,15 @@ impl Table for PackedBoard {
     ghost cards = { λ b s. take s.size (pile_at b s.pile).cards };
 
     fn pile(&self, i: u8) -> Lowest {
-        Lowest {
-            pile: i,
-            size: self.pile(i).len(),
-        }
+        Lowest::all(i, self.pile(i))
     }
 
     fn top(&self, stack: Lowest) -> Option<Card> {
-        if stack.size == 0 {
-            None
-        } else {
-            Some(self.pile(stack.pile)[stack.size - 1])
-        }
+        stack.top(self.pile(stack.pile))
     }
 
     fn under(&self, stack: Lowest) -> Lowest {
-        Lowest {
-            pile: stack.pile,
-            size: stack.size.saturating_sub(1),
-        }
+        stack.under()
     }
 
     fn size(&self, i: u8) -> usize {
@@ -58,10 +48,7 @@ impl Table for PackedBoard {
     }
 
     fn last_entry(&self) -> Option<Card> {
-        match self.reserve().last() {
-            Some(entry) => *entry,
-            None => None,
-        }
+        self.reserve().last().copied().unwrap_or(None)
     }
 
     fn stock_size(&self) -> usize {
@@ -69,10 +56,7 @@ impl Table for PackedBoard {
     }
 
     fn waste_top(&self) -> Option<Card> {
-        match self.waste().last() {
-            Some(card) => Some(*card),
-            None => None,
-        }
+        self.waste().last().copied()
     }
 
     fn redeals_left(&self) -> u8 {
@@ -84,10 +68,7 @@ impl Table for PackedBoard {
     }
 
     fn hole_top(&self) -> Option<Card> {
-        match self.hole().last() {
-            Some(card) => Some(*card),
-            None => None,
-        }
+        self.hole().last().copied()
     }
 
     fn slot(&self, i: u8) -> Option<Card> {
@@ -105,10 +86,7 @@ impl Table for Packed {
     ghost cards = { λ p s. take s.size (pile_at p.board s.pile).cards };
 
     fn pile(&self, i: u8) -> Lowest {
-        Lowest {
-            pile: i,
-            size: self.board.pile(i).len(),
-        }
+        Lowest::all(i, self.board.pile(i))
     }
 
     fn top(&self, stack: Lowest) -> Option<Card> {

@@ -1,13 +1,12 @@
 //! Which card a foundation takes next, and whether another card can still need it.
 ghost use Rattle.std.specs.Prelude.{◌≡◌, ◌≤◌, ◌<◌, length, IsTrue, Option, Some, None};
-ghost use Rattle.card_piles.specs.Builds.{suits_fit};
 ghost use Rattle.game_rules.specs.Board.{height_at};
 ghost use Rattle.game_rules.specs.Belonging.{Belongs};
 ghost use Rattle.safe_moves.specs.Safe.{rules_allow, is_not_needed};
 ghost use Rattle.safe_moves.specs.Need.{home_place, is_no_bar, upper_rank};
 ghost use Rattle.safe_foundation.specs.Giving.{next_card, unneeded, free_card};
 
-use card_piles::{Build, Card, Suit};
+use card_piles::{Card, suits_fit};
 use game_model::{Goal, Rules, Table, Target};
 use game_rules::suit_at;
 
@@ -22,17 +21,6 @@ pub fn rules_allow(rules: &Rules) -> bool
         && !rules.takes_back()
         && !rules.takes_complete_runs()
         && !matches!(rules.target(), Target::ToTableau)
-}
-
-fn suits_fit(build: Build, upper: Suit, lower: Suit) -> bool
-    ensures { result ≡ suits_fit build upper lower }
-{
-    match build {
-        Build::NoBuild => false,
-        Build::AnySuit => true,
-        Build::RedBlack => upper.is_red() != lower.is_red(),
-        Build::SameSuit => upper.place() == lower.place(),
-    }
 }
 
 /// The place of a rank on a foundation, counted from 0 at the bottom.

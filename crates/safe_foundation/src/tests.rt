@@ -4,109 +4,29 @@ ghost use Rattle.game_rules.specs.Belonging.{Belongs};
 ghost use Rattle.packed_state.specs.Packed.{board_of};
 
 use crate::{first_safe, rules_allow};
-use card_piles::{Build, Card, builds, card_of};
-use game_model::{
-    Board, BoardParts, Face, Goal, Groups, Items, Layout, Redeals, RuleParts, Rules, Spaces, Target,
-};
+use card_piles::{Build, Card, builds};
+use game_model::{Goal, Rules};
 use game_rules::{Move, Place, suit_at};
 use packed_state::{Packed, Spot};
-use std::alloc::{AllocError, Global};
+use small_games::{board_of, move_of, rules_of};
+use std::alloc::Global;
 use std::process::Abort;
 use std::test::Fail;
 
-/// Five ranks, two piles of red on black, and foundations from the ace.
-fn five_ranks() -> RuleParts {
-    RuleParts {
-        decks: 1,
-        max_rank: 5,
-        piles: 2,
-        layout: Layout::Even,
-        face: Face::AllUp,
-        build: Build::RedBlack,
-        wrap: false,
-        groups: Groups::One,
-        group_build: Build::RedBlack,
-        spaces: Spaces::Any,
-        goal: foundations(1),
-        cells: 0,
-        cells_filled: 0,
-        reserve: 0,
-        stacked: false,
-        stock: 0,
-        target: Target::ToWaste,
-        draw: 1,
-        redeals: Redeals::Times(0),
-    }
-}
-
-fn foundations(base: u8) -> Goal {
-    Goal::Foundations {
-        base,
-        started: false,
-        take_back: false,
-        complete_runs: false,
-    }
-}
-
-fn no_parts(alloc: Global) -> BoardParts {
-    BoardParts {
-        tableau: Items::new(alloc),
-        face_down: Items::new(alloc),
-        cells: Items::new(alloc),
-        reserve: Items::new(alloc),
-        stock: Items::new(alloc),
-        waste: Items::new(alloc),
-        redeals_left: 0,
-        foundations: Items::new(alloc),
-        hole: Items::new(alloc),
-        rows: Items::new(alloc),
-    }
-}
-
-/// The cards that a text names.
-fn cards_of(alloc: Global, text: &str) -> Result<Items<Card>, AllocError> {
-    let mut cards = Items::new(alloc);
-    for word in text.split_whitespace() {
-        if let Some(card) = card_of(word.as_bytes()) {
-            cards.push(card)?;
-        }
-    }
-    Ok(cards)
-}
-
-/// The first safe move of a board with these piles and heights of foundations.
-fn first_safe_of_text(
-    alloc: Global,
-    parts: RuleParts,
-    piles: &[&str],
-    heights: &[u8],
-) -> Result<Option<Move>, Fail> {
-    let rules = Rules::new(parts)?;
-    let mut parts = no_parts(alloc);
-    for pile in piles {
-        parts.tableau.push(cards_of(alloc, pile)?)?;
-    }
-    for height in heights {
-        parts.foundations.push(*height)?;
-    }
-    let board = Board::new(alloc, &rules, parts)?;
+/// The first safe move of a board in words.
+fn first_safe_in(alloc: Global, rules: &str, board: &str) -> Result<Option<Move>, Fail> {
+    let rules = rules_of(rules)?;
+    let board = board_of(alloc, &rules, board)?;
     Ok(first_safe(&rules, &Packed::from_board(&rules, &board)))
-}
-
-fn to_first_foundation(from: Place) -> Option<Move> {
-    Some(Move::Carry {
-        from,
-        to: Place::Foundation(0),
-        count: 1,
-    })
 }
 
 #[test]
 fn a_card_is_forced_once_both_that_build_on_it_are_home(rt: HostRuntime) -> Result<(), Fail> {
     let alloc = rt.alloc();
-    let both = first_safe_of_text(alloc, five_ranks(), &["5C", "5H"], &[4, 5, 4, 5])?;
-    assert!(rt; both == to_first_foundation(Place::Tableau(0)));
-    let one = first_safe_of_text(alloc, five_ranks(), &["5C", "4H 5H"], &[4, 5, 3, 5])?;
+    let rules = "red-black ranks 5 piles 2 cells 0 reserve 0 stock 0";
+    let both = first_safe_in(alloc, rules, "pile 5C pile 5H home 4 5 4 5")?;
+    assert!(rt; both == Some(move_of("t0 f0")));
+    let one = first_safe_in(alloc, rules, "pile 5C pile 4H 5H home 4 5 3 5")?;
     assert!(rt; one.is_none());
     Ok(())
 }
@@ -114,68 +34,37 @@ fn a_card_is_forced_once_both_that_build_on_it_are_home(rt: HostRuntime) -> Resu
 #[test]
 fn no_card_is_forced_under_two_decks(rt: HostRuntime) -> Result<(), Fail> {
     let alloc = rt.alloc();
-    let mut parts = five_ranks();
-    parts.max_rank = 1;
-    parts.piles = 1;
-    let one = first_safe_of_text(alloc, parts, &["AC"], &[0, 1, 1, 1])?;
-    assert!(rt; one == to_first_foundation(Place::Tableau(0)));
-    parts.decks = 2;
-    assert!(rt; !rules_allow(&Rules::new(parts)?));
-    let two = first_safe_of_text(alloc, parts, &["AC"], &[0, 1, 1, 1, 1, 1, 1, 1])?;
-    assert!(rt; two.is_none());
+    let one = "red-black ranks 1 piles 1 cells 0 reserve 0 stock 0";
+    assert!(rt; rules_allow(&rules_of(one)?));
+    assert!(rt; first_safe_in(alloc, one, "pile AC home 0 1 1 1")? == Some(move_of("t0 f0")));
+    let two = "red-black ranks 1 piles 1 cells 0 reserve 0 stock 0 decks 2";
+    assert!(rt; !rules_allow(&rules_of(two)?));
+    assert!(rt; first_safe_in(alloc, two, "pile AC home 0 1 1 1 1 1 1 1")?.is_none());
     Ok(())
 }
 
-/// Five ranks on four piles, two cells, a reserve of two and a stock of two.
-fn full_game(build: Build, wrap: bool, base: u8) -> RuleParts {
-    let mut parts = five_ranks();
-    parts.piles = 4;
-    parts.face = Face::TopUp;
+/// Five ranks on four piles, of which groups may leave, two cells, a reserve of two and a stock.
+fn full_game(build: Build, wrap: bool, base: u8) -> Result<Rules, Fail> {
+    let mut parts = rules_of("ranks 5 piles 4 run top-up unlimited")?.parts();
     parts.build = build;
-    parts.wrap = wrap;
-    parts.groups = Groups::Run;
     parts.group_build = build;
-    parts.goal = foundations(base);
-    parts.cells = 2;
-    parts.reserve = 2;
+    parts.wrap = wrap;
     parts.stacked = wrap;
-    parts.stock = 2;
-    parts.redeals = Redeals::Unlimited;
-    parts
+    parts.goal = Goal::Foundations {
+        base,
+        started: false,
+        take_back: false,
+        complete_runs: false,
+    };
+    let rules = Rules::new(parts)?;
+    Ok(rules)
 }
 
-/// The card at a place of a deck of five ranks that was stepped through.
-fn card_at(place: u32, step: u32) -> Option<Card> {
-    let number = (place.wrapping_mul(step) % 20) as u8;
-    Card::new(suit_at(number / 5), number % 5 + 1)
-}
-
-/// A deal: four piles of four cards, two of each face down, and then reserve and stock.
-fn deal(alloc: Global, rules: &Rules, step: u32) -> Result<Board, Fail>
-    ensures { IfOk result (λ board. Belongs rules.now board) }
-{
-    let mut parts = no_parts(alloc);
-    for pile in 0..4u32 {
-        let mut cards = Items::new(alloc);
-        for row in 0..4u32 {
-            if let Some(card) = card_at(4 * pile + row, step) {
-                cards.push(card)?;
-            }
-        }
-        parts.tableau.push(cards)?;
-        parts.face_down.push(2)?;
-    }
-    for place in 16..18u32 {
-        parts.reserve.push(card_at(place, step))?;
-    }
-    for place in 18..20u32 {
-        if let Some(card) = card_at(place, step) {
-            parts.stock.push(card)?;
-        }
-    }
-    let board = Board::new(alloc, rules, parts)?;
-    Ok(board)
-}
+/// Two deals of that game.
+const DEALS: [&str; 2] = [
+    "pile AC 4C 2D 5D pile 3H AS 4S 2C pile 5C 3D AH 4H pile 2S 5S 3C AD down 2 2 2 2 reserve 4D 2H stock 5H 3S",
+    "pile AC 3D 5H 2C pile 4D AS 3C 5D pile 2S 4C AH 3S pile 5C 2H 4S AD down 2 2 2 2 reserve 3H 5S stock 2D 4H",
+];
 
 /// Whether the card lies on a foundation, card by card.
 fn is_home(rules: &Rules, packed: &Packed, card: Card) -> bool
@@ -253,12 +142,12 @@ struct Met {
 fn compare_in_play(
     alloc: Global,
     rules: &Rules,
-    step: u32,
+    start: &str,
     mut met: Met,
 ) -> Result<Option<Met>, Fail> {
-    let board = deal(alloc, rules, step)?;
+    let board = board_of(alloc, rules, start)?;
     let mut packed = Packed::from_board(rules, &board);
-    let mut number: u32 = step;
+    let mut number: u32 = 7;
     for _ in 0..40 {
         let mut moves = Vec::new(alloc);
         packed.list_moves(alloc, rules, &mut moves)?;
@@ -271,7 +160,11 @@ fn compare_in_play(
             met.safe = met.safe.saturating_add(1);
         }
         number = number.wrapping_mul(75).wrapping_add(74) % 65537;
-        let place = if number % 3 == 0 { 0 } else { number as usize % moves.len().max(1) };
+        let place = if number % 3 == 0 {
+            0
+        } else {
+            number as usize % moves.len().max(1)
+        };
         match moves.get(place) {
             Some(m) if packed.is_legal(rules, *m) => {
                 packed.go(rules, *m);
@@ -294,10 +187,10 @@ fn the_first_safe_move_is_that_of_a_slow_reading(rt: HostRuntime) -> Result<(), 
     ] {
         for wrap in [false, true] {
             for base in [1, 3, 5] {
-                let rules = Rules::new(full_game(build, wrap, base))?;
-                for step in [3, 7] {
-                    let next = compare_in_play(alloc, &rules, step, met)?;
-                    assert!(rt; next.is_some(), "at {build:?} {wrap} {base} {step}");
+                let rules = full_game(build, wrap, base)?;
+                for start in DEALS {
+                    let next = compare_in_play(alloc, &rules, start, met)?;
+                    assert!(rt; next.is_some(), "at {build:?} {wrap} {base}");
                     met = next.unwrap_or(met);
                 }
             }

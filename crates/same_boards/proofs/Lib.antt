@@ -1,0 +1,15 @@
+pub mod WorkedRows
+pub mod Renaming
+pub mod SameMoves
+pub mod SameWins
+pub mod SameLaws
+pub mod Sorting
+pub mod SameKeys
+pub mod KeyParts
+pub mod KeysSame
+pub mod WorkedKeys
+pub mod CardCount
+pub mod KeySize
+pub mod SameAfter
+pub mod KeyBytes
+pub mod BoardCards
