@@ -216,8 +216,8 @@ fn list_all<T: Table>(rules: &Rules, table: &T, out: &mut Vec<Move>) -> Result<(
     Ok(())
 }
 
-/// Appends each legal move once, in the order of moves, and nothing else. After a refusal `out` is
-/// as before.
+/// Appends each legal move of a table once, in the order of moves, and nothing else. It takes no
+/// memory but where `out` grows; after a refusal `out` is as before.
 pub fn list_moves_of<T: Table>(
     rules: &Rules,
     table: &T,
@@ -237,7 +237,7 @@ pub fn list_moves_of<T: Table>(
     }
 }
 
-/// The same of a board.
+/// Appends each legal move of a board once, as `list_moves_of` does of every table.
 pub fn list_moves(
     _alloc: Global,
     rules: &Rules,

@@ -86,7 +86,8 @@ fn foundation_top(rules: &Rules, f: u8, height: u8) -> Option<Card>
     }
 }
 
-/// The one card that a place other than a pile gives, if it gives one.
+/// The one card that a place other than a pile gives. None for a pile, and where the place gives
+/// no card.
 pub fn single_at<T: Table>(rules: &Rules, table: &T, place: Place) -> Option<Card>
     requires { IsTrue (has_place rules.now (T.board table.now) place) }
     ensures { result ≡ single_at rules.now (T.board table.now) place }
