@@ -41,8 +41,8 @@ fn is_fitted(to: Place, set: CardSet, offer: Offer) -> bool
     (takes_groups(to) || offer.count == 1) && set.has_bit(offer.bit) && are_apart(offer.from, to)
 }
 
-/// Whether what is offered may go to a place: the set has the cards that the place accepts, and
-/// where there is none the place is asked.
+/// Whether what is offered may go to a place. The set has the cards that the place accepts; without
+/// one the place is asked.
 fn may_go<T: Table>(rules: &Rules, table: &T, to: Place, set: Option<CardSet>, offer: Offer) -> bool
     requires here { IsTrue (has_place rules.now (T.board table.now) to) }
     requires fits { IfSome set (λ accepted. Fits rules.now (T.board table.now) to accepted) }
@@ -129,7 +129,7 @@ fn list_onto<T: Table>(
     Ok(())
 }
 
-/// Appends the legal carries to the hole, where the game has one.
+/// Appends the legal carries to the hole, if the game has one.
 fn list_to_hole<T: Table>(
     rules: &Rules,
     table: &T,
@@ -185,7 +185,7 @@ fn list_carries<T: Table>(
     Ok(())
 }
 
-/// Appends the move, where it is legal.
+/// Appends the move, if it is legal.
 fn push_legal<T: Table>(
     rules: &Rules,
     table: &T,
