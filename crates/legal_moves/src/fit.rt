@@ -25,7 +25,7 @@ fn with_rank(set: CardSet, rank: u8) -> CardSet
         .with(Suit::Spades, rank)
 }
 
-/// The one rank that builds on a rank, or 0 where none does.
+/// The one rank that builds on a rank, or 0 if none does.
 fn rank_on(rules: &Rules, lower: u8) -> u8
     requires { IsRank lower }
     ensures low { result < 16 }
@@ -38,7 +38,7 @@ fn rank_on(rules: &Rules, lower: u8) -> u8
     }
 }
 
-/// The set with the card of this suit and rank, where the suit builds on the lower one.
+/// The set with the card of this suit and rank, if the suit builds on the lower one.
 fn with_suit(rules: &Rules, set: CardSet, suit: Suit, rank: u8, lower: Suit) -> CardSet
     requires { rank < 16 }
     ensures { (c : Card) → IsRank c.rank → has result c ≡ ((same_suit suit c.suit && ((rank == c.rank) && suits_fit rules.now.build c.suit lower)) || has set c) }
@@ -149,8 +149,8 @@ fn in_gap<T: Table>(rules: &Rules, table: &T, i: u8) -> CardSet
     }
 }
 
-/// The cards that a place accepts, each as the first of those that are put there. Foundations that take complete runs
-/// are asked another way.
+/// The cards that a place accepts, each as the first of those that are put there. A foundation that
+/// takes complete runs is asked another way.
 pub(crate) fn fit_of<T: Table>(rules: &Rules, table: &T, to: Place) -> CardSet
     requires here { IsTrue (has_place rules.now (T.board table.now) to) }
     requires by_card { is_asked_card_by_card rules.now to ≡ true }

@@ -41,15 +41,9 @@ fn is_fitted(to: Place, set: CardSet, offer: Offer) -> bool
     (takes_groups(to) || offer.count == 1) && set.has_bit(offer.bit) && are_apart(offer.from, to)
 }
 
-/// Whether what is offered may go to a place: the set has the cards that the place accepts, and
-/// where there is none the place is asked.
-fn may_go<T: Table>(
-    rules: &Rules,
-    table: &T,
-    to: Place,
-    set: Option<CardSet>,
-    offer: Offer,
-) -> bool
+/// Whether what is offered may go to a place. The set has the cards that the place accepts; without
+/// one the place is asked.
+fn may_go<T: Table>(rules: &Rules, table: &T, to: Place, set: Option<CardSet>, offer: Offer) -> bool
     requires here { IsTrue (has_place rules.now (T.board table.now) to) }
     requires fits { IfSome set (λ accepted. Fits rules.now (T.board table.now) to accepted) }
     requires given { IsGiven rules.now (T.board table.now) offer }
@@ -135,7 +129,7 @@ fn list_onto<T: Table>(
     Ok(())
 }
 
-/// Appends the legal carries to the hole, where the game has one.
+/// Appends the legal carries to the hole, if the game has one.
 fn list_to_hole<T: Table>(
     rules: &Rules,
     table: &T,
@@ -191,7 +185,7 @@ fn list_carries<T: Table>(
     Ok(())
 }
 
-/// Appends the move, where it is legal.
+/// Appends the move, if it is legal.
 fn push_legal<T: Table>(
     rules: &Rules,
     table: &T,
@@ -222,8 +216,8 @@ fn list_all<T: Table>(rules: &Rules, table: &T, out: &mut Vec<Move>) -> Result<(
     Ok(())
 }
 
-/// Appends each legal move once, in the order of moves, and nothing else. After a refusal `out` is
-/// as before.
+/// Appends each legal move of a table once, in the order of moves, and nothing else. It takes no
+/// memory but where `out` grows; after a refusal `out` is as before.
 pub fn list_moves_of<T: Table>(
     rules: &Rules,
     table: &T,
@@ -243,7 +237,7 @@ pub fn list_moves_of<T: Table>(
     }
 }
 
-/// The same of a board.
+/// Appends each legal move of a board once, as `list_moves_of` does of every table.
 pub fn list_moves(
     _alloc: Global,
     rules: &Rules,

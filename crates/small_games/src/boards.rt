@@ -6,7 +6,8 @@ use card_piles::{Card, card_of};
 use game_model::{Board, BoardFault, BoardParts, Items, Part, Rules};
 use std::alloc::{AllocError, Global};
 
-fn no_parts(alloc: Global) -> BoardParts {
+/// The parts of a board with no card and no number, to be filled in.
+pub fn no_parts(alloc: Global) -> BoardParts {
     BoardParts {
         tableau: Items::new(alloc),
         face_down: Items::new(alloc),

@@ -12,7 +12,7 @@ mod comparing;
 mod moves;
 mod rules;
 
-pub use boards::board_of;
+pub use boards::{board_of, no_parts};
 pub use comparing::same_boards;
 pub use moves::move_of;
 pub use rules::rules_of;

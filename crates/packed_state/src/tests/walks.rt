@@ -9,7 +9,7 @@ use card_piles::Card;
 use game_model::{Board, BoardParts, Face, Items, Rules};
 use game_rules::suit_at;
 use legal_moves::list_moves;
-use small_games::{rules_of, same_boards};
+use small_games::{no_parts, rules_of, same_boards};
 use std::alloc::{AllocError, Global};
 use std::test::Fail;
 
@@ -22,21 +22,6 @@ const GAMES: [&str; 6] = [
     "decks 2 ranks 13 piles 10 cells 0 reserve 0 stock 50 to-tableau top-up run any-suit suit-groups complete-runs",
     "ranks 13 rows",
 ];
-
-fn no_parts(alloc: Global) -> BoardParts {
-    BoardParts {
-        tableau: Items::new(alloc),
-        face_down: Items::new(alloc),
-        cells: Items::new(alloc),
-        reserve: Items::new(alloc),
-        stock: Items::new(alloc),
-        waste: Items::new(alloc),
-        redeals_left: 0,
-        foundations: Items::new(alloc),
-        hole: Items::new(alloc),
-        rows: Items::new(alloc),
-    }
-}
 
 /// The card at a place of a deck that was cut and stepped through.
 fn card_at(place: u16) -> Option<Card> {
