@@ -35,6 +35,14 @@ impl<T> Trail<T> {
     {
         &self.steps
     }
+
+    /// The steps as a list that the caller keeps.
+    pub fn into_vec(self) -> Vec<T>
+        ensures { result.items ≡ self }
+    {
+        let Trail { steps } = self;
+        steps
+    }
 }
 
 /// What a search found.

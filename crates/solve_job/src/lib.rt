@@ -18,12 +18,11 @@ ghost use Rattle.solve_job.specs.Verdicts.{IsVerdict, IsDecided, IsSmall};
 use card_piles::NoMemory;
 use dfs_core::{Found, search};
 use game_model::{Board, Rules};
-use game_rules::Move;
 use legal_moves::Line;
 use line_printer::Verdict;
 use node_budget::Budget;
 use search_space::PlainSpace;
-use std::alloc::{AllocError, Global};
+use std::alloc::Global;
 use transposition::LruMemo;
 
 /// What a search may spend and remember.
@@ -33,15 +32,6 @@ pub struct Limits {
     pub cache: u32,
     /// How many boards may be expanded.
     pub nodes: u64,
-}
-
-/// The line of these moves.
-fn line_of(alloc: Global, moves: &[Move]) -> Result<Line, AllocError>
-    ensures { IfOk result (λ line. line ≡ moves.now) }
-{
-    let mut items = Vec::new(alloc);
-    items.extend_from_slice(moves)?;
-    Ok(Line::from_vec(items))
 }
 
 /// Searches for a line to a won board.
@@ -73,7 +63,7 @@ pub fn solve(
     let narrow_nodes = 0;
     match found {
         Found::Won(trail) => Ok(Verdict::Winnable {
-            line: line_of(alloc, trail.items())?,
+            line: Line::from_vec(trail.into_vec()),
             nodes,
             narrow_nodes,
         }),

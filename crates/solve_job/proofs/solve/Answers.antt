@@ -5,8 +5,8 @@ use Rattle.solve_job.specs.Verdicts.{IsWinnable, IsUndecided}
 use Rattle.solve_job.proofs.Answering.{answer_of, never_wins, winnable, unwinnable, undecided, not_small}
 use Rattle.solve_job.proofs.solve.Goals as goal
 
-pub returns-in_ok-line_of-in-Won-clause-verdict : goal.returns-in_ok-line_of-in-Won-clause-verdict
-returns-in_ok-line_of-in-Won-clause-verdict c =
+pub returns-in-Won-clause-verdict : goal.returns-in-Won-clause-verdict
+returns-in-Won-clause-verdict c =
     let agree = agrees c.args.rules.now c.args.start.now c.parts.ensures.playable c.requires.belongs in
     let same_limit = c.in-Ok-search.ensures.limit ∙ c.new-budget.ensures.limit in
     let within = subst (λ limit. c.spent-nodes.result ≤ limit) same_limit c.spent-nodes.ensures.within in
@@ -15,7 +15,7 @@ returns-in_ok-line_of-in-Won-clause-verdict c =
     c.in-Ok-search.ensures.answer in
     let wins = winnable c.args.rules.now c.args.start.now c.args.limits.now.cache c.args.limits.now.nodes c.spent-nodes.result agree within c.in-Won.trail answer in (
       subst (λ line. IsWinnable c.args.rules.now c.args.start.now c.args.limits.now.cache c.args.limits.now.nodes line c.spent-nodes.result)
-          (sym (c.in_ok-line_of-in-Won.ensures ∙ c.items.ensures)) wins,
+          (sym (c.from_vec.ensures ∙ c.into_vec.ensures)) wins,
       refl,
     )
 
