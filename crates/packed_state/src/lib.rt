@@ -17,6 +17,7 @@ mod packing;
 mod reading;
 mod rows;
 mod spots;
+mod stock;
 mod table;
 #[cfg(test)]
 mod tests;
@@ -27,6 +28,7 @@ use arrayvec::ArrayVec;
 use card_piles::Card;
 use game_rules::{Place, Target};
 use std::marker::Model;
+pub use stock::StockUndo;
 
 // All types stand in this one file, so that definitions cite each by its short path.
 
