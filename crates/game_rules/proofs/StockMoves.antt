@@ -237,8 +237,7 @@ pub has-more : (rules : RuleParts) (k : ℕ) (board : Board) (move : Move) → I
 has-more rules k board move to_waste has stock legal =
     let more = after_stock_moves-suc rules k board in
     let next = next-of_legal rules (after_stock_moves rules k board) move stock legal in
-    let last : IsNextByStock rules (after_stock_moves rules k board) (after_stock_moves rules (suc k) board) = rw more next.0 in
-    (
+    let last : IsNextByStock rules (after_stock_moves rules k board) (after_stock_moves rules (suc k) board) = rw more next.0 in (
       record {
         to_waste = λ some. to_waste;
         each = λ i below. elim (cases_lt i k) [

@@ -55,13 +55,13 @@ find-first R p [] x pairs here h none = absurd (omega (arith, here.1))
 find-first R p (y ∷ ys) x pairs here h none =
     elim (cases_Bool (p y)) [
       | inl passes ↦ elim (Contains-cases x y ys here) [
-          | inl same ↦ cond-true (p y) (Some y) (find p ys) passes ∙ ap Some same
-          | inr rest ↦ absurd (none y passes (head-before R x y ys pairs rest))
-        ]
+        | inl same ↦ cond-true (p y) (Some y) (find p ys) passes ∙ ap Some same
+        | inr rest ↦ absurd (none y passes (head-before R x y ys pairs rest))
+      ]
       | inr fails ↦ elim (Contains-cases x y ys here) [
-          | inl same ↦ (let e = ap p same in cc)
-          | inr rest ↦ cond-false (p y) (Some y) (find p ys) fails ∙ find-first R p ys x (tail-pairs R y ys pairs) rest h none
-        ]
+        | inl same ↦ (let e = ap p same in cc)
+        | inr rest ↦ cond-false (p y) (Some y) (find p ys) fails ∙ find-first R p ys x (tail-pairs R y ys pairs) rest h none
+      ]
     ]
 
 pub first_safe-found : (rules : RuleParts) (board : Board) (move : Move) → IsTrue (is_safe rules board move)
