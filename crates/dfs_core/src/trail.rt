@@ -35,6 +35,14 @@ impl<T> Trail<T> {
     {
         &self.steps
     }
+
+    /// The steps in their order, with no copy of them.
+    pub fn into_vec(self) -> Vec<T>
+        ensures { result.items ≡ self }
+    {
+        let Trail { steps } = self;
+        steps
+    }
 }
 
 /// What a search found.
