@@ -1,4 +1,4 @@
-//! The line of the search, from its start to where it stands, and the steps of the states on it.
+//! The stack of the search, from its start to where it stands, and the steps of the states on it.
 
 ghost use Rattle.std.specs.Prelude.{◌≡◌, ◌+◌, ◌<◌, [], ◌∷◌, ◌++◌, OnOk, OnErr, IfOk, IsSome, length};
 ghost use Rattle.dfs_core.specs.Undoing.{taken_back, before_frame};
@@ -9,7 +9,7 @@ use crate::trail::Trail;
 use std::alloc::Global;
 use transposition::NoMemory;
 
-/// Where the steps of an expanded state begin among those of the line, and the next one to try.
+/// Where the steps of an expanded state begin among those of the stack, and the next one to try.
 #[derive(Clone, Copy)]
 pub(crate) struct Level {
     pub(crate) begin: usize,
@@ -24,9 +24,9 @@ pub(crate) struct Frame<T, U> {
     pub(crate) undo: U,
 }
 
-/// The line of the search: the states below, the steps of all of them one after the other, and the current one.
+/// The stack of the search: the states below, the steps of all of them one after the other, and the current one.
 #[derive(Drop)]
-pub(crate) struct Line<T, U> {
+pub(crate) struct Stack<T, U> {
     pub(crate) frames: Vec<Frame<T, U>>,
     pub(crate) steps: Vec<T>,
     pub(crate) top: Level,
@@ -46,24 +46,24 @@ pub(crate) fn rewind<S: Space>(space: &mut S, frames: &mut Vec<Frame<S::Step, S:
 /// Goes on from the state that the step led to. An `Err` takes the step back.
 pub(crate) fn descend<S: Space>(
     space: &mut S,
-    line: &mut Line<S::Step, S::Undo>,
+    stack: &mut Stack<S::Step, S::Undo>,
     step: S::Step,
     undo: S::Undo,
 ) -> Result<(), NoMemory>
-    requires room { line.old.top.next < length line.old.steps.items }
+    requires room { stack.old.top.next < length stack.old.steps.items }
     requires back { IsSome (S.before undo space.old) }
-    ensures ok { OnOk result (Descends line.old.frames.items line.old.steps.items line.old.top step undo line.new.frames.items line.new.steps.items line.new.top) }
+    ensures ok { OnOk result (Descends stack.old.frames.items stack.old.steps.items stack.old.top step undo stack.new.frames.items stack.new.steps.items stack.new.top) }
     ensures ok_space { OnOk result (space.new ≡ space.old) }
-    ensures err { OnErr result ((line.new.frames.items ≡ line.old.frames.items) × (S.before undo space.old ≡ Some space.new)) }
+    ensures err { OnErr result ((stack.new.frames.items ≡ stack.old.frames.items) × (S.before undo space.old ≡ Some space.new)) }
 {
     let level = Level {
-        begin: line.top.begin,
-        next: line.top.next + 1,
+        begin: stack.top.begin,
+        next: stack.top.next + 1,
     };
-    match line.frames.push(Frame { level, step, undo }) {
+    match stack.frames.push(Frame { level, step, undo }) {
         Ok(()) => {
-            let begin = line.steps.len();
-            line.top = Level { begin, next: begin };
+            let begin = stack.steps.len();
+            stack.top = Level { begin, next: begin };
             Ok(())
         }
         Err(refused) => {

@@ -1,7 +1,7 @@
 use Rattle.std.proofs.Common.{◌∙◌, sym, subst, IsSome}
 use Rattle.dfs_core.specs.Undoing.{taken_back, before_frame}
 use Rattle.dfs_core.proofs.Back.{some_inside, popped, after_back}
-use Rattle.dfs_core.proofs.line.rewind.Goals as goal
+use Rattle.dfs_core.proofs.stack.rewind.Goals as goal
 
 pub back-requires : goal.back-requires
 back-requires g c =

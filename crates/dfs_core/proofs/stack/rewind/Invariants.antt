@@ -1,6 +1,6 @@
 use Rattle.std.proofs.Common.{◌≡◌}
 use Rattle.dfs_core.specs.Undoing.{taken_back, before_frame}
-use Rattle.dfs_core.proofs.line.rewind.Given as goal
+use Rattle.dfs_core.proofs.stack.rewind.Given as goal
 
 abbrev pub invariant-loop-frame : goal.invariant-loop-frame
 invariant-loop-frame g l =
