@@ -1,9 +1,21 @@
 //! Which card builds on which.
 
 ghost use Rattle.std.specs.Prelude.{◌≡◌};
-ghost use Rattle.card_piles.specs.Builds.{builds_on};
+ghost use Rattle.card_piles.specs.Builds.{builds_on, suits_fit};
 
-use crate::{Build, Card};
+use crate::{Build, Card, Suit};
+
+/// Whether the suits fit `build`, where a card of the one is put on a card of the other.
+pub fn suits_fit(build: Build, upper: Suit, lower: Suit) -> bool
+    ensures { result ≡ suits_fit build upper lower }
+{
+    match build {
+        Build::NoBuild => false,
+        Build::AnySuit => true,
+        Build::RedBlack => upper.is_red() != lower.is_red(),
+        Build::SameSuit => upper.place() == lower.place(),
+    }
+}
 
 /// Whether `upper` builds on `lower`, in a game with the ranks 1 to `max_rank`.
 ///
@@ -14,11 +26,5 @@ pub fn builds(build: Build, wrap: bool, max_rank: u8, upper: Card, lower: Card) 
 {
     let next = upper.rank() + 1 == lower.rank();
     let wrapped = wrap && upper.rank() == max_rank && lower.rank() == 1;
-    let suits_fit = match build {
-        Build::NoBuild => false,
-        Build::AnySuit => true,
-        Build::RedBlack => upper.is_red() != lower.is_red(),
-        Build::SameSuit => upper.suit() == lower.suit(),
-    };
-    (next || wrapped) && suits_fit
+    (next || wrapped) && suits_fit(build, upper.suit(), lower.suit())
 }

@@ -37,6 +37,7 @@ fn a_black_nine_builds_on_a_red_ten(rt: HostRuntime) {
     assert!(rt; !builds(Build::SameSuit, false, 13, nine, ten));
     assert!(rt; !builds(Build::NoBuild, false, 13, nine, ten));
     assert!(rt; !builds(Build::RedBlack, false, 13, ten, nine));
+    assert!(rt; suits_fit(Build::RedBlack, Suit::Clubs, Suit::Hearts));
 }
 
 #[test]

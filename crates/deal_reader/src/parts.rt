@@ -1,15 +1,14 @@
 //! The parts that the object of a deal file gives.
-ghost use Rattle.std.specs.Prelude.{◌≡◌, ◌⊎◌, [], Ok, Err, IfOk, IfErr, codes, replicate, option_map, map};
+ghost use Rattle.std.specs.Prelude.{◌≡◌, [], IfOk, codes, replicate, option_map, map};
 ghost use Rattle.serde_json.specs.View.{view};
 ghost use Rattle.game_rules.specs.Rules.{is_started};
 ghost use Rattle.game_rules.specs.Belonging.{most_redeals};
-ghost use Rattle.deal_reader.specs.Entries.{card_at, entry_at, number_at as number_at_place, list_at, lists_at};
+ghost use Rattle.deal_reader.specs.Entries.{IsReadAs, card_at, entry_at, number_at, list_at, lists_at};
 ghost use Rattle.deal_reader.specs.Position.{or_default, if_there, default_foundations, keys_known, deal_of_tree};
 
 use crate::deal::DealParts;
-use crate::entries::{card_lists_at, cards_at, entries_at, entry_lists_at, number_at, numbers_at};
+use crate::entries::{self, Entry};
 use crate::fault::DealFault;
-use card_piles::Card;
 use game_model::Rules;
 use game_rules::{Goal, Part, Redeals};
 use item_list::Items;
@@ -17,66 +16,35 @@ use json_tree::has_only_keys;
 use serde_json::Value;
 use std::alloc::{AllocError, Global};
 
-fn cards(alloc: Global, part: Part, value: Option<&Value>) -> Result<Items<Card>, DealFault>
-    ensures ok { IfOk result (λ found. or_default [] (list_at part (card_at part) 0) (option_map (λ v. view v.now) value.entry) ≡ Ok found) }
-    ensures fault { IfErr result (λ fault. (fault ≡ DealFault.Memory) ⊎ (or_default [] (list_at part (card_at part) 0) (option_map (λ v. view v.now) value.entry) ≡ Err fault)) }
+fn list<E: Entry>(alloc: Global, part: Part, value: Option<&Value>) -> Result<Items<E>, DealFault>
+    ensures { IsReadAs result (or_default [] (list_at part (E.read part) 0) (option_map (λ v. view v.now) value.entry)) }
 {
     match value {
-        Some(value) => cards_at(alloc, part, 0, value),
+        Some(value) => entries::list_at(alloc, part, 0, value),
         None => Ok(Items::new(alloc)),
     }
 }
 
-fn entries(
+fn lists<E: Entry>(
     alloc: Global,
     part: Part,
     value: Option<&Value>,
-) -> Result<Items<Option<Card>>, DealFault>
-    ensures ok { IfOk result (λ found. or_default [] (list_at part (entry_at part) 0) (option_map (λ v. view v.now) value.entry) ≡ Ok found) }
-    ensures fault { IfErr result (λ fault. (fault ≡ DealFault.Memory) ⊎ (or_default [] (list_at part (entry_at part) 0) (option_map (λ v. view v.now) value.entry) ≡ Err fault)) }
+) -> Result<Items<Items<E>>, DealFault>
+    ensures { IsReadAs result (or_default [] (lists_at part (E.read part)) (option_map (λ v. view v.now) value.entry)) }
 {
     match value {
-        Some(value) => entries_at(alloc, part, 0, value),
-        None => Ok(Items::new(alloc)),
-    }
-}
-
-fn card_lists(
-    alloc: Global,
-    part: Part,
-    value: Option<&Value>,
-) -> Result<Items<Items<Card>>, DealFault>
-    ensures ok { IfOk result (λ found. or_default [] (lists_at part (card_at part)) (option_map (λ v. view v.now) value.entry) ≡ Ok found) }
-    ensures fault { IfErr result (λ fault. (fault ≡ DealFault.Memory) ⊎ (or_default [] (lists_at part (card_at part)) (option_map (λ v. view v.now) value.entry) ≡ Err fault)) }
-{
-    match value {
-        Some(value) => card_lists_at(alloc, part, value),
-        None => Ok(Items::new(alloc)),
-    }
-}
-
-fn entry_lists(
-    alloc: Global,
-    part: Part,
-    value: Option<&Value>,
-) -> Result<Items<Items<Option<Card>>>, DealFault>
-    ensures ok { IfOk result (λ found. or_default [] (lists_at part (entry_at part)) (option_map (λ v. view v.now) value.entry) ≡ Ok found) }
-    ensures fault { IfErr result (λ fault. (fault ≡ DealFault.Memory) ⊎ (or_default [] (lists_at part (entry_at part)) (option_map (λ v. view v.now) value.entry) ≡ Err fault)) }
-{
-    match value {
-        Some(value) => entry_lists_at(alloc, part, value),
+        Some(value) => entries::lists_at(alloc, part, value),
         None => Ok(Items::new(alloc)),
     }
 }
 
 fn face_down(alloc: Global, value: Option<&Value>) -> Result<Option<Items<u64>>, DealFault>
-    ensures ok { IfOk result (λ found. if_there (list_at Part.FaceDown (number_at_place Part.FaceDown) 0) (option_map (λ v. view v.now) value.entry) ≡ Ok found) }
-    ensures fault { IfErr result (λ fault. (fault ≡ DealFault.Memory) ⊎ (if_there (list_at Part.FaceDown (number_at_place Part.FaceDown) 0) (option_map (λ v. view v.now) value.entry) ≡ Err fault)) }
+    ensures { IsReadAs result (if_there (list_at Part.FaceDown (number_at Part.FaceDown) 0) (option_map (λ v. view v.now) value.entry)) }
 {
     let Some(value) = value else {
         return Ok(None);
     };
-    let numbers = numbers_at(alloc, Part::FaceDown, 0, value)?;
+    let numbers = entries::list_at(alloc, Part::FaceDown, 0, value)?;
     Ok(Some(numbers))
 }
 
@@ -90,10 +58,10 @@ fn most_redeals(redeals: Redeals) -> u8
 }
 
 fn redeals_left(rules: &Rules, value: Option<&Value>) -> Result<u64, DealFault>
-    ensures { result ≡ or_default (most_redeals rules.now.redeals) (number_at_place Part.RedealsLeft 0) (option_map (λ v. view v.now) value.entry) }
+    ensures { result ≡ or_default (most_redeals rules.now.redeals) (number_at Part.RedealsLeft 0) (option_map (λ v. view v.now) value.entry) }
 {
     match value {
-        Some(value) => number_at(Part::RedealsLeft, value),
+        Some(value) => u64::read_at(Part::RedealsLeft, 0, value),
         None => Ok(u64::from(most_redeals(rules.redeals()))),
     }
 }
@@ -120,11 +88,10 @@ fn default_foundations(alloc: Global, rules: &Rules) -> Result<Items<u64>, Alloc
 }
 
 fn foundations(alloc: Global, rules: &Rules, value: Option<&Value>) -> Result<Items<u64>, DealFault>
-    ensures ok { IfOk result (λ found. or_default (default_foundations rules.now) (list_at Part.Foundations (number_at_place Part.Foundations) 0) (option_map (λ v. view v.now) value.entry) ≡ Ok found) }
-    ensures fault { IfErr result (λ fault. (fault ≡ DealFault.Memory) ⊎ (or_default (default_foundations rules.now) (list_at Part.Foundations (number_at_place Part.Foundations) 0) (option_map (λ v. view v.now) value.entry) ≡ Err fault)) }
+    ensures { IsReadAs result (or_default (default_foundations rules.now) (list_at Part.Foundations (number_at Part.Foundations) 0) (option_map (λ v. view v.now) value.entry)) }
 {
     match value {
-        Some(value) => numbers_at(alloc, Part::Foundations, 0, value),
+        Some(value) => entries::list_at(alloc, Part::Foundations, 0, value),
         None => {
             let heights = default_foundations(alloc, rules)?;
             Ok(heights)
@@ -158,19 +125,18 @@ pub fn keys_known(top: &Value) -> Result<(), DealFault>
 /// The parts that the object gives, or the first fault of a key.
 #[tactic(auto, unfolding(crate::specs::Position::deal_of_tree))]
 pub fn deal_of(alloc: Global, rules: &Rules, top: &Value) -> Result<DealParts, DealFault>
-    ensures ok { IfOk result (λ deal. deal_of_tree rules.now (view top.now) ≡ Ok deal) }
-    ensures fault { IfErr result (λ fault. (fault ≡ DealFault.Memory) ⊎ (deal_of_tree rules.now (view top.now) ≡ Err fault)) }
+    ensures { IsReadAs result (deal_of_tree rules.now (view top.now)) }
 {
-    let tableau = card_lists(alloc, Part::Tableau, top.get("tableau"))?;
+    let tableau = lists(alloc, Part::Tableau, top.get("tableau"))?;
     let face_down = face_down(alloc, top.get("face down"))?;
-    let cells = entries(alloc, Part::Cells, top.get("cells"))?;
-    let reserve = entries(alloc, Part::Reserve, top.get("reserve"))?;
-    let stock = cards(alloc, Part::Stock, top.get("stock"))?;
-    let waste = cards(alloc, Part::Waste, top.get("waste"))?;
+    let cells = list(alloc, Part::Cells, top.get("cells"))?;
+    let reserve = list(alloc, Part::Reserve, top.get("reserve"))?;
+    let stock = list(alloc, Part::Stock, top.get("stock"))?;
+    let waste = list(alloc, Part::Waste, top.get("waste"))?;
     let redeals_left = redeals_left(rules, top.get("redeals left"))?;
     let foundations = foundations(alloc, rules, top.get("foundations"))?;
-    let hole = cards(alloc, Part::Hole, top.get("hole"))?;
-    let rows = entry_lists(alloc, Part::Rows, top.get("rows"))?;
+    let hole = list(alloc, Part::Hole, top.get("hole"))?;
+    let rows = lists(alloc, Part::Rows, top.get("rows"))?;
     Ok(DealParts {
         tableau,
         face_down,

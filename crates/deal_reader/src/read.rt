@@ -1,9 +1,10 @@
 //! From the bytes of a file to a board.
-ghost use Rattle.std.specs.Prelude.{◌≡◌, ◌&&◌, not, ◌⊎◌, ◌-◌, min, map, length, nat_lt, Ok, Err, IsErrOf, IfOk, IfErr};
+ghost use Rattle.std.specs.Prelude.{◌≡◌, ◌&&◌, not, ◌⊎◌, ◌-◌, min, map, length, nat_lt, IfOk};
 ghost use Rattle.std.specs.List.{list_any};
 ghost use Rattle.serde_json.specs.View.{view};
 ghost use Rattle.game_rules.specs.Belonging.{Belongs};
 ghost use Rattle.game_rules.specs.Position.{tableau_full};
+ghost use Rattle.deal_reader.specs.Entries.{IsReadAs};
 ghost use Rattle.deal_reader.specs.Position.{default_face_down, face_down_or_default, has_great_number, parts_of_deal, position_of_deal, position_of_tree, position_of};
 ghost use Rattle.deal_reader.specs.Bytes.{narrow, narrowed};
 
@@ -122,9 +123,8 @@ fn fills_face_down(rules: &Rules, deal: &DealParts) -> bool
 }
 
 fn board_of_deal(alloc: Global, rules: &Rules, deal: DealParts) -> Result<Board, DealFault>
-    ensures ok { IfOk result (λ board. position_of_deal rules.now deal ≡ Ok board) }
     ensures belongs { IfOk result (λ board. Belongs rules.now board) }
-    ensures fault { IfErr result (λ fault. (fault ≡ DealFault.Memory) ⊎ (position_of_deal rules.now deal ≡ Err fault)) }
+    ensures value { IsReadAs result (position_of_deal rules.now deal) }
 {
     let _ = rules.parts();
     if fills_face_down(rules, &deal) {
@@ -139,9 +139,8 @@ fn board_of_deal(alloc: Global, rules: &Rules, deal: DealParts) -> Result<Board,
 
 #[tactic(auto, unfolding(crate::specs::Position::position_of_tree))]
 fn board_of_tree(alloc: Global, rules: &Rules, top: &Value) -> Result<Board, DealFault>
-    ensures ok { IfOk result (λ board. position_of_tree rules.now (view top.now) ≡ Ok board) }
     ensures belongs { IfOk result (λ board. Belongs rules.now board) }
-    ensures fault { IfErr result (λ fault. (fault ≡ DealFault.Memory) ⊎ (position_of_tree rules.now (view top.now) ≡ Err fault)) }
+    ensures value { IsReadAs result (position_of_tree rules.now (view top.now)) }
 {
     keys_known(top)?;
     let deal = deal_of(alloc, rules, top)?;
@@ -152,7 +151,7 @@ fn board_of_tree(alloc: Global, rules: &Rules, top: &Value) -> Result<Board, Dea
 #[tactic(auto, unfolding(crate::specs::Position::position_of))]
 pub fn read_position(alloc: Global, rules: &Rules, bytes: &[u8]) -> Result<Board, DealFault>
     ensures belongs { IfOk result (λ board. Belongs rules.now board) }
-    ensures value { (IsErrOf result DealFault.Memory → ⊥) → result ≡ position_of rules.now bytes.now }
+    ensures value { IsReadAs result (position_of rules.now bytes.now) }
 {
     match read_object(alloc, bytes) {
         Ok(top) => board_of_tree(alloc, rules, &top),

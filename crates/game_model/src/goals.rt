@@ -1,21 +1,11 @@
 //! What the goal of the rules says of foundations, hole and rows.
 ghost use Rattle.std.specs.Prelude.{◌≡◌, ◌≤◌};
-ghost use Rattle.game_rules.specs.Rules.{is_hole_goal, base_of, takes_back, takes_complete_runs, hole_wraps, foundation_rank};
+ghost use Rattle.game_rules.specs.Rules.{is_hole_goal, takes_back, takes_complete_runs, hole_wraps, foundation_rank};
 ghost use Rattle.game_rules.specs.Belonging.{foundation_count, slot_count};
 ghost use Rattle.game_rules.specs.Position.{row_count};
 
 use crate::rules::Rules;
 use game_rules::Goal;
-
-fn base_of(goal: Goal) -> u8
-    ensures { result ≡ base_of goal }
-{
-    match goal {
-        Goal::Foundations { base, .. } => base,
-        Goal::Hole { .. } => 1,
-        Goal::Sequences => 1,
-    }
-}
 
 impl Rules {
     /// How many foundations there are: four a deck where the goal is Foundations, else none.
@@ -61,7 +51,7 @@ impl Rules {
         ensures high { result ≤ 13 }
     {
         let max_rank = u16::from(self.max_rank());
-        let from_base = u16::from(base_of(self.goal()).saturating_sub(1)) + u16::from(place);
+        let from_base = u16::from(self.goal().base().saturating_sub(1)) + u16::from(place);
         (from_base % max_rank + 1) as u8
     }
 
@@ -69,22 +59,14 @@ impl Rules {
     pub fn takes_back(&self) -> bool
         ensures { result ≡ takes_back self.now.goal }
     {
-        match self.goal() {
-            Goal::Foundations { take_back, .. } => take_back,
-            Goal::Hole { .. } => false,
-            Goal::Sequences => false,
-        }
+        self.goal().takes_back()
     }
 
     /// Whether foundations take complete runs alone.
     pub fn takes_complete_runs(&self) -> bool
         ensures { result ≡ takes_complete_runs self.now.goal }
     {
-        match self.goal() {
-            Goal::Foundations { complete_runs, .. } => complete_runs,
-            Goal::Hole { .. } => false,
-            Goal::Sequences => false,
-        }
+        self.goal().takes_complete_runs()
     }
 
     /// Whether the hole is a place of the board.
@@ -98,14 +80,10 @@ impl Rules {
         }
     }
 
-    /// Whether the hole goes on from the greatest rank to the ace and back.
+    /// Whether the greatest rank and the ace are neighbours in the hole.
     pub fn hole_wraps(&self) -> bool
         ensures { result ≡ hole_wraps self.now.goal }
     {
-        match self.goal() {
-            Goal::Foundations { .. } => false,
-            Goal::Hole { wrap, .. } => wrap,
-            Goal::Sequences => false,
-        }
+        self.goal().hole_wraps()
     }
 }

@@ -5,6 +5,7 @@ ghost use Rattle.card_piles.specs.declared.Card.{Card};
 ghost use Rattle.game_rules.specs.Board.{Board, pile_at, entry_at, height_at, top_of, below_top};
 
 use crate::board::Board;
+use crate::lowest::Lowest;
 use card_piles::Card;
 
 /// A table of cards to look at. A pile is read from its top, one card after the other.
@@ -93,15 +94,6 @@ pub trait Table {
         ensures { result ≡ entry_at (board self.now).slots i };
 }
 
-/// The lowest cards of a pile, of a table that keeps its piles as lists.
-#[derive(Clone, Copy, Debug)]
-pub struct Lowest {
-    /// The pile's number.
-    pub pile: u8,
-    /// How many cards of it.
-    pub size: usize,
-}
-
 impl Table for Board {
     type Stack = Lowest;
 
@@ -112,25 +104,15 @@ impl Table for Board {
     ghost cards = { λ b s. take s.size (pile_at b s.pile).cards };
 
     fn pile(&self, i: u8) -> Lowest {
-        Lowest {
-            pile: i,
-            size: self.pile(i).len(),
-        }
+        Lowest::all(i, self.pile(i))
     }
 
     fn top(&self, stack: Lowest) -> Option<Card> {
-        if stack.size == 0 {
-            None
-        } else {
-            Some(self.pile(stack.pile)[stack.size - 1])
-        }
+        stack.top(self.pile(stack.pile))
     }
 
     fn under(&self, stack: Lowest) -> Lowest {
-        Lowest {
-            pile: stack.pile,
-            size: stack.size.saturating_sub(1),
-        }
+        stack.under()
     }
 
     fn size(&self, i: u8) -> usize {
@@ -154,10 +136,7 @@ impl Table for Board {
     }
 
     fn last_entry(&self) -> Option<Card> {
-        match self.reserve().last() {
-            Some(entry) => *entry,
-            None => None,
-        }
+        self.reserve().last().copied().unwrap_or(None)
     }
 
     fn stock_size(&self) -> usize {

@@ -75,13 +75,9 @@ fn boards_and_faults(rt: HostRuntime) {
         .ok()
         .expect(&rt, "a board");
     let copy = board.duplicate(rt.alloc()).ok().expect(&rt, "memory");
-    println!(rt;
-        "{} {} {}",
-        copy.stock().len(),
-        copy.hole().len(),
-        copy.redeals_left()
-    )
-    .expect(&rt, "print");
+    assert!(rt; 0 < rules.piles() && 1 < rules.foundation_count());
+    assert!(rt; copy.pile(0) == board.pile(0) && copy.pile(0) == [ace, two].as_slice());
+    assert!(rt; copy.height(0) == 0 && copy.height(1) == 2);
     let missing = parts(rt.alloc(), &[ace], &[0, 2, 2, 2], 0)
         .ok()
         .expect(&rt, "memory");

@@ -4,7 +4,7 @@ use Rattle.std.proofs.Common.{◌≡◌, ℕ, true, false, List, [], ◌∷◌, 
 use Rattle.std.specs.Prelude.{Bool, Option, Some, None}
 use Rattle.card_piles.specs.declared.Card.{Card}
 use Rattle.card_piles.specs.declared.Suit.TheVariants.{Clubs, Diamonds, Hearts, Spades}
-use Rattle.card_piles.specs.declared.Build.TheVariants.{NoBuild, AnySuit, SameSuit}
+use Rattle.card_piles.specs.declared.Build.TheVariants.{NoBuild, AnySuit, RedBlack, SameSuit}
 use Rattle.game_rules.specs.declared.RuleParts.{RuleParts}
 use Rattle.game_rules.specs.declared.Layout.TheVariants.{Even}
 use Rattle.game_rules.specs.declared.Face.TheVariants.{AllUp, TopUp}
@@ -17,7 +17,7 @@ use Rattle.game_rules.specs.declared.Goal.TheVariants.{Foundations, Hole, Sequen
 use Rattle.game_rules.specs.declared.Move.{Move}
 use Rattle.game_rules.specs.declared.Move.TheVariants.{Carry, Deal, Redeal}
 use Rattle.game_rules.specs.declared.Place.{Place}
-use Rattle.game_rules.specs.declared.Place.TheVariants.{Tableau, Cell, Waste, Foundation, Slot, Hole as TheHole}
+use Rattle.game_rules.specs.declared.Place.TheVariants.{Tableau, Cell, Reserve, Waste, Foundation, Slot, Hole as TheHole}
 use Rattle.game_rules.specs.Board.{Board, Pile}
 use Rattle.game_rules.specs.Play.{after}
 use Rattle.game_rules.specs.Winning.{Wins, Winnable}
@@ -327,3 +327,133 @@ turned_up_in_turn-wins = record {
 -- the ace lies face down under the two, and nothing fills the space
 pub ace_face_down-no_win : Winnable (only_tops_up 2 2) (board_of (partly_up (club 1 ∷ club 2 ∷ []) 1 ∷ up [] ∷ []) (0 ∷ 2 ∷ 2 ∷ 2 ∷ [])) → ⊥
 ace_face_down-no_win = listed-no_win _ _ [] (refl, tt) (tt, tt)
+
+-- The reserve.
+
+abbrev with_reserve : List (Option Card) → Board → Board
+with_reserve reserve board = record board { reserve = reserve }
+
+-- two entries, or one list of two cards
+abbrev two_in_reserve : Bool → RuleParts
+two_in_reserve stacked = record (plain 2 0) { reserve = 2; stacked = stacked }
+
+-- each entry is free, so the ace goes home past the two
+pub entries_are_free-wins : Wins (two_in_reserve false) 2
+    (with_reserve (Some (club 1) ∷ Some (club 2) ∷ []) (board_of [] (0 ∷ 2 ∷ 2 ∷ 2 ∷ [])))
+entries_are_free-wins = record {
+  moves = go (Reserve 0) (Foundation 0) ∷ go (Reserve 1) (Foundation 0) ∷ [];
+  end = with_reserve (None ∷ None ∷ []) (board_of [] (2 ∷ 2 ∷ 2 ∷ 2 ∷ []));
+  short = lit≤ tt;
+  line = (refl, (refl, refl));
+  won = refl;
+}
+
+-- of a stacked reserve the top goes first
+pub top_of_reserve-wins : Wins (two_in_reserve true) 2
+    (with_reserve (Some (club 2) ∷ Some (club 1) ∷ []) (board_of [] (0 ∷ 2 ∷ 2 ∷ 2 ∷ [])))
+top_of_reserve-wins = record {
+  moves = go (Reserve 0) (Foundation 0) ∷ go (Reserve 0) (Foundation 0) ∷ [];
+  end = with_reserve [] (board_of [] (2 ∷ 2 ∷ 2 ∷ 2 ∷ []));
+  short = lit≤ tt;
+  line = (refl, (refl, refl));
+  won = refl;
+}
+
+-- and the ace under it is not free
+pub ace_deep_in_reserve-no_win : Winnable (two_in_reserve true)
+    (with_reserve (Some (club 1) ∷ Some (club 2) ∷ []) (board_of [] (0 ∷ 2 ∷ 2 ∷ 2 ∷ []))) → ⊥
+ace_deep_in_reserve-no_win = listed-no_win _ _ [] (refl, tt) (tt, tt)
+
+-- Taking back.
+
+abbrev back_to_a_space : Bool → RuleParts
+back_to_a_space take_back = record (plain 3 2) { build = RedBlack; spaces = King; goal = Foundations 1 false take_back false }
+
+abbrev ace_between : Board
+ace_between = board_of (up (club 3 ∷ club 1 ∷ club 2 ∷ []) ∷ up [] ∷ []) (0 ∷ 3 ∷ 3 ∷ 3 ∷ [])
+
+-- the red three comes back to the space and holds the two while the ace goes home
+pub red_three_taken_back-wins : Wins (back_to_a_space true) 6 ace_between
+red_three_taken_back-wins = record {
+  moves =
+      go (Foundation 1) (Tableau 1) ∷ go (Tableau 0) (Tableau 1) ∷ go (Tableau 0) (Foundation 0)
+      ∷ go (Tableau 1) (Foundation 0) ∷ go (Tableau 0) (Foundation 0) ∷ go (Tableau 1) (Foundation 1) ∷ [];
+  end = board_of (up [] ∷ up [] ∷ []) (3 ∷ 3 ∷ 3 ∷ 3 ∷ []);
+  short = lit≤ tt;
+  line = (refl, (refl, (refl, (refl, (refl, (refl, refl))))));
+  won = refl;
+}
+
+-- where nothing is taken back, nothing moves
+pub nothing_taken_back-no_win : Winnable (back_to_a_space false) ace_between → ⊥
+nothing_taken_back-no_win = listed-no_win _ _ [] (refl, tt) (tt, tt)
+
+-- A base above the ace.
+
+abbrev from_the_two : RuleParts
+from_the_two = record (plain 2 1) { goal = Foundations 2 false false false }
+
+-- the two goes home first, and the ace goes on it
+pub two_before_ace-wins : Wins from_the_two 2 (board_of (up (club 1 ∷ club 2 ∷ []) ∷ []) (0 ∷ 2 ∷ 2 ∷ 2 ∷ []))
+two_before_ace-wins = record {
+  moves = go (Tableau 0) (Foundation 0) ∷ go (Tableau 0) (Foundation 0) ∷ [];
+  end = board_of (up [] ∷ []) (2 ∷ 2 ∷ 2 ∷ 2 ∷ []);
+  short = lit≤ tt;
+  line = (refl, (refl, refl));
+  won = refl;
+}
+
+-- no ace goes home before its two
+pub ace_before_two-no_win : Winnable from_the_two (board_of (up (club 2 ∷ club 1 ∷ []) ∷ []) (0 ∷ 2 ∷ 2 ∷ 2 ∷ [])) → ⊥
+ace_before_two-no_win = listed-no_win _ _ [] (refl, tt) (tt, tt)
+
+-- Ranks that wrap round in the piles.
+
+abbrev on_red_and_black : Bool → RuleParts
+on_red_and_black wrap = record (plain 2 2) { build = RedBlack; wrap = wrap; spaces = NoFill }
+
+abbrev two_on_an_ace : Board
+two_on_an_ace = board_of (up (club 1 ∷ club 2 ∷ []) ∷ up (diamond 2 ∷ diamond 1 ∷ []) ∷ []) (0 ∷ 0 ∷ 2 ∷ 2 ∷ [])
+
+-- the black two waits on the red ace
+pub two_waits_on_the_ace-wins : Wins (on_red_and_black true) 5 two_on_an_ace
+two_waits_on_the_ace-wins = record {
+  moves =
+      go (Tableau 0) (Tableau 1) ∷ go (Tableau 0) (Foundation 0) ∷ go (Tableau 1) (Foundation 0)
+      ∷ go (Tableau 1) (Foundation 1) ∷ go (Tableau 1) (Foundation 1) ∷ [];
+  end = board_of (up [] ∷ up [] ∷ []) (2 ∷ 2 ∷ 2 ∷ 2 ∷ []);
+  short = lit≤ tt;
+  line = (refl, (refl, (refl, (refl, (refl, refl)))));
+  won = refl;
+}
+
+-- where ranks do not wrap, the two never leaves the black ace
+pub no_two_on_an_ace-no_win : Winnable (on_red_and_black false) two_on_an_ace → ⊥
+no_two_on_an_ace-no_win =
+    listed-no_win _ _
+    (board_of (up (club 1 ∷ club 2 ∷ []) ∷ up (diamond 2 ∷ []) ∷ []) (0 ∷ 1 ∷ 2 ∷ 2 ∷ [])
+    ∷ board_of (up (club 1 ∷ club 2 ∷ diamond 1 ∷ []) ∷ up (diamond 2 ∷ []) ∷ []) (0 ∷ 0 ∷ 2 ∷ 2 ∷ [])
+    ∷ board_of (up (club 1 ∷ club 2 ∷ []) ∷ up [] ∷ []) (0 ∷ 2 ∷ 2 ∷ 2 ∷ []) ∷ [])
+    (refl, (refl, (refl, (refl, tt))))
+    (((1, lit< tt, refl), ((2, lit< tt, refl), tt)), (((3, lit< tt, refl), tt), (((1, lit< tt, refl), tt), (tt, tt))))
+
+-- Two decks.
+
+abbrev two_decks : ℕ → RuleParts
+two_decks max_rank = record (plain max_rank 1) { decks = 2 }
+
+-- each ace of clubs has a foundation of its own
+pub both_aces_of_clubs-wins : Wins (two_decks 1) 2
+    (board_of (up (club 1 ∷ club 1 ∷ []) ∷ []) (0 ∷ 1 ∷ 1 ∷ 1 ∷ 0 ∷ 1 ∷ 1 ∷ 1 ∷ []))
+both_aces_of_clubs-wins = record {
+  moves = go (Tableau 0) (Foundation 0) ∷ go (Tableau 0) (Foundation 4) ∷ [];
+  end = board_of (up [] ∷ []) (1 ∷ 1 ∷ 1 ∷ 1 ∷ 1 ∷ 1 ∷ 1 ∷ 1 ∷ []);
+  short = lit≤ tt;
+  line = (refl, (refl, refl));
+  won = refl;
+}
+
+-- the two fits neither the empty foundation nor the full one
+pub full_foundation_of_clubs-no_win : Winnable (two_decks 2)
+    (board_of (up (club 1 ∷ club 2 ∷ []) ∷ []) (0 ∷ 2 ∷ 2 ∷ 2 ∷ 2 ∷ 2 ∷ 2 ∷ 2 ∷ [])) → ⊥
+full_foundation_of_clubs-no_win = listed-no_win _ _ [] (refl, tt) (tt, tt)

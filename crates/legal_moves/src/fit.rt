@@ -9,21 +9,10 @@ ghost use Rattle.game_rules.specs.Board.{has_place};
 ghost use Rattle.game_rules.specs.Putting.{fills_space, goes_on_pile, is_next_on, are_neighbours, goes_in_hole, follows, fits_slot};
 ghost use Rattle.legal_moves.specs.Fits.{Fits, is_asked_card_by_card};
 
-use card_piles::{Build, Card, Suit};
+use card_piles::{Card, Suit, suits_fit};
 use card_sets::CardSet;
 use game_model::{Rules, Spaces, Table};
 use game_rules::{Place, suit_at};
-
-fn suits_fit(build: Build, upper: Suit, lower: Suit) -> bool
-    ensures { result ≡ suits_fit build upper lower }
-{
-    match build {
-        Build::NoBuild => false,
-        Build::AnySuit => true,
-        Build::RedBlack => upper.is_red() != lower.is_red(),
-        Build::SameSuit => upper.place() == lower.place(),
-    }
-}
 
 /// The set with the cards of a rank.
 fn with_rank(set: CardSet, rank: u8) -> CardSet
@@ -36,7 +25,7 @@ fn with_rank(set: CardSet, rank: u8) -> CardSet
         .with(Suit::Spades, rank)
 }
 
-/// The one rank that builds on a rank, or 0 where none does.
+/// The one rank that builds on a rank, or 0 if none does.
 fn rank_on(rules: &Rules, lower: u8) -> u8
     requires { IsRank lower }
     ensures low { result < 16 }
@@ -49,7 +38,7 @@ fn rank_on(rules: &Rules, lower: u8) -> u8
     }
 }
 
-/// The set with the card of this suit and rank, where the suit builds on the lower one.
+/// The set with the card of this suit and rank, if the suit builds on the lower one.
 fn with_suit(rules: &Rules, set: CardSet, suit: Suit, rank: u8, lower: Suit) -> CardSet
     requires { rank < 16 }
     ensures { (c : Card) → IsRank c.rank → has result c ≡ ((same_suit suit c.suit && ((rank == c.rank) && suits_fit rules.now.build c.suit lower)) || has set c) }
@@ -160,8 +149,8 @@ fn in_gap<T: Table>(rules: &Rules, table: &T, i: u8) -> CardSet
     }
 }
 
-/// The cards that a place accepts, each as the first of those that are put there. Foundations that take complete runs
-/// are asked another way.
+/// The cards that a place accepts, each as the first of those that are put there. A foundation that
+/// takes complete runs is asked another way.
 pub(crate) fn fit_of<T: Table>(rules: &Rules, table: &T, to: Place) -> CardSet
     requires here { IsTrue (has_place rules.now (T.board table.now) to) }
     requires by_card { is_asked_card_by_card rules.now to ≡ true }

@@ -15,7 +15,7 @@ use card_sets::CardBit;
 use game_model::{Redeals, Rules, Table, Target};
 use game_rules::{Move, Place};
 
-/// The first of so many cards of a pile, if it gives them.
+/// The first of the last `count` cards of a pile, if it gives them.
 fn first_given<T: Table>(rules: &Rules, table: &T, i: u8, count: u8) -> Option<Card>
     requires { i < length (T.board table.now).piles }
     ensures { result ≡ first_given rules.now (pile_at (T.board table.now) i) count }
@@ -41,7 +41,7 @@ fn first_given<T: Table>(rules: &Rules, table: &T, i: u8, count: u8) -> Option<C
     Some(card)
 }
 
-/// The first of so many cards of a place, if it gives them.
+/// The first of `count` cards of a place, if it gives them.
 fn first_taken<T: Table>(rules: &Rules, table: &T, from: Place, count: u8) -> Option<Card>
     requires { IsTrue (has_place rules.now (T.board table.now) from) }
     ensures { result ≡ first_taken rules.now (T.board table.now) from count }

@@ -18,7 +18,7 @@ use card_sets::CardBit;
 use game_model::{Rules, Table};
 use game_rules::Place;
 
-/// So many cards of a place, with the bit of the first of them.
+/// A number of cards that a place gives, with the bit of the first of them.
 #[derive(Clone, Copy, Debug)]
 pub(crate) struct Offer {
     pub(crate) from: Place,

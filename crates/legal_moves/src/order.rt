@@ -1,5 +1,5 @@
 //! The list of the legal moves of a table, in their order.
-ghost use Rattle.std.specs.Prelude.{◌≡◌, ℕ, ◌≤◌, ◌<◌, ◌+◌, ◌∷◌, [], ◌++◌, map, true, ◌||◌, ◌&&◌, ◌==◌, not, length, IsTrue, OnOk, OnErr};
+ghost use Rattle.std.specs.Prelude.{◌≡◌, ℕ, ◌≤◌, ◌<◌, ◌+◌, ◌∷◌, [], ◌++◌, map, true, ◌||◌, ◌&&◌, ◌==◌, not, length, IsTrue, IfSome, OnOk, OnErr};
 ghost use Rattle.std.specs.List.{All, filter, flat_map, range_with_len};
 ghost use Rattle.card_sets.specs.Sets.{has_bit};
 ghost use Rattle.game_rules.specs.Board.{has_place};
@@ -8,7 +8,7 @@ ghost use Rattle.game_rules.specs.Order.{hole_place, targets, legal_moves};
 ghost use Rattle.game_rules.specs.Belonging.{Belongs};
 ghost use Rattle.legal_moves.specs.Fits.{Fits, takes_groups, is_asked_card_by_card};
 ghost use Rattle.legal_moves.specs.Kinds.{place_in};
-ghost use Rattle.legal_moves.specs.Offers.{IsGiven, legal_of, StartsWith};
+ghost use Rattle.legal_moves.specs.Offers.{IsGiven, carry_of, legal_of, StartsWith};
 
 use crate::fit::fit_of;
 use crate::legal::is_legal;
@@ -41,48 +41,37 @@ fn is_fitted(to: Place, set: CardSet, offer: Offer) -> bool
     (takes_groups(to) || offer.count == 1) && set.has_bit(offer.bit) && are_apart(offer.from, to)
 }
 
-/// Appends the carries of what is offered to a place that accepts a set of cards.
-fn list_fitting<T: Table>(
-    rules: &Rules,
-    table: &T,
-    to: Place,
-    set: CardSet,
-    offers: &[Offer],
-    out: &mut Vec<Move>,
-) -> Result<(), AllocError>
+/// Whether what is offered may go to a place. The set has the cards that the place accepts; without
+/// one the place is asked.
+fn may_go<T: Table>(rules: &Rules, table: &T, to: Place, set: Option<CardSet>, offer: Offer) -> bool
     requires here { IsTrue (has_place rules.now (T.board table.now) to) }
-    requires fits { Fits rules.now (T.board table.now) to set }
-    requires given { All (IsGiven rules.now (T.board table.now)) offers.now }
-    ensures ok { OnOk result (out.new.items ≡ out.old.items ++ legal_of rules.now (T.board table.now) offers.now to) }
-    ensures err { OnErr result (StartsWith out.new.items out.old.items) }
+    requires fits { IfSome set (λ accepted. Fits rules.now (T.board table.now) to accepted) }
+    requires given { IsGiven rules.now (T.board table.now) offer }
+    ensures { result ≡ is_legal_move rules.now (T.board table.now) (carry_of to offer) }
 {
-    for offer in offers {
-        if is_fitted(to, set, *offer) {
-            out.push(Move::Carry {
-                from: offer.from,
-                to,
-                count: offer.count,
-            })?;
-        }
+    match set {
+        Some(set) => is_fitted(to, set, offer),
+        None => can_go(rules, table, offer, to),
     }
-    Ok(())
 }
 
-/// Appends the carries of what is offered to a foundation that takes complete runs.
-fn list_runs<T: Table>(
+/// Appends the legal carries of what is offered to a place, given the cards that it accepts.
+fn list_offers<T: Table>(
     rules: &Rules,
     table: &T,
     to: Place,
+    set: Option<CardSet>,
     offers: &[Offer],
     out: &mut Vec<Move>,
 ) -> Result<(), AllocError>
     requires here { IsTrue (has_place rules.now (T.board table.now) to) }
+    requires fits { IfSome set (λ accepted. Fits rules.now (T.board table.now) to accepted) }
     requires given { All (IsGiven rules.now (T.board table.now)) offers.now }
     ensures ok { OnOk result (out.new.items ≡ out.old.items ++ legal_of rules.now (T.board table.now) offers.now to) }
     ensures err { OnErr result (StartsWith out.new.items out.old.items) }
 {
     for offer in offers {
-        if can_go(rules, table, *offer, to) {
+        if may_go(rules, table, to, set, *offer) {
             out.push(Move::Carry {
                 from: offer.from,
                 to,
@@ -109,13 +98,13 @@ fn list_to<T: Table>(
     ensures err { OnErr result (StartsWith out.new.items out.old.items) }
 {
     if !is_asked_card_by_card(rules, to) {
-        return list_runs(rules, table, to, offers, out);
+        return list_offers(rules, table, to, None, offers, out);
     }
     let set = fit_of(rules, table, to);
     if !free.meets(set) {
         return Ok(());
     }
-    list_fitting(rules, table, to, set, offers, out)
+    list_offers(rules, table, to, Some(set), offers, out)
 }
 
 /// Appends the legal carries to the places of a kind.
@@ -140,7 +129,7 @@ fn list_onto<T: Table>(
     Ok(())
 }
 
-/// Appends the legal carries to the hole, where the game has one.
+/// Appends the legal carries to the hole, if the game has one.
 fn list_to_hole<T: Table>(
     rules: &Rules,
     table: &T,
@@ -196,7 +185,7 @@ fn list_carries<T: Table>(
     Ok(())
 }
 
-/// Appends the move, where it is legal.
+/// Appends the move, if it is legal.
 fn push_legal<T: Table>(
     rules: &Rules,
     table: &T,
@@ -227,8 +216,8 @@ fn list_all<T: Table>(rules: &Rules, table: &T, out: &mut Vec<Move>) -> Result<(
     Ok(())
 }
 
-/// Appends each legal move once, in the order of moves, and nothing else. After a refusal `out` is
-/// as before.
+/// Appends each legal move of a table once, in the order of moves, and nothing else. It takes no
+/// memory but where `out` grows; after a refusal `out` is as before.
 pub fn list_moves_of<T: Table>(
     rules: &Rules,
     table: &T,
@@ -248,7 +237,7 @@ pub fn list_moves_of<T: Table>(
     }
 }
 
-/// The same of a board.
+/// Appends each legal move of a board once, as `list_moves_of` does of every table.
 pub fn list_moves(
     _alloc: Global,
     rules: &Rules,

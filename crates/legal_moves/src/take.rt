@@ -32,7 +32,8 @@ pub(crate) fn has_place<T: Table>(rules: &Rules, table: &T, place: Place) -> boo
     }
 }
 
-/// How many cards of a pile are given at most, be they a run: those that lie face up, and one where groups do not move.
+/// How many cards a pile gives at most, if they are a run: those that lie face up, and one if groups
+/// do not move.
 pub(crate) fn most_given<T: Table>(rules: &Rules, table: &T, i: u8) -> usize
     requires { i < length (T.board table.now).piles }
     ensures { result ≡ most_given rules.now (pile_at (T.board table.now) i) }
@@ -46,8 +47,8 @@ pub(crate) fn most_given<T: Table>(rules: &Rules, table: &T, i: u8) -> usize
     }
 }
 
-/// The next card of a run that is followed from its top: the upmost one that is left, where the card before it builds
-/// on it.
+/// The next card of a run that is followed from its top: the upmost card that is left, if the card
+/// before it builds on it.
 pub(crate) fn next_down<T: Table>(
     rules: &Rules,
     table: &T,
@@ -86,7 +87,8 @@ fn foundation_top(rules: &Rules, f: u8, height: u8) -> Option<Card>
     }
 }
 
-/// The one card that a place other than a pile gives, if it gives one.
+/// The one card that a place other than a pile gives. None for a pile, and where the place gives
+/// no card.
 pub fn single_at<T: Table>(rules: &Rules, table: &T, place: Place) -> Option<Card>
     requires { IsTrue (has_place rules.now (T.board table.now) place) }
     ensures { result ≡ single_at rules.now (T.board table.now) place }

@@ -3,3 +3,4 @@ pub mod Putting
 pub mod Taking
 pub mod Deals
 pub mod Returning
+pub mod StockRuns

@@ -1,4 +1,5 @@
 pub mod Noting
 pub mod Packed
 pub mod Spots
+pub mod StockRuns
 pub mod Undoing

@@ -10,7 +10,7 @@ ghost use Rattle.packed_state.specs.Undoing.{has_room};
 use crate::{PackedBoard, PackedPile};
 use arrayvec::ArrayVec;
 use card_piles::Card;
-use game_model::Rules;
+use game_model::{Rules, face_down_left};
 use game_rules::{Place, Redeals};
 
 /// Puts cards at the end of a fixed list that has room for them.
@@ -45,9 +45,7 @@ impl PackedPile {
     {
         let left = self.cards.len() - usize::from(count);
         self.cards.truncate(left);
-        if left <= usize::from(self.face_down) {
-            self.face_down = left.saturating_sub(1) as u8;
-        }
+        self.face_down = face_down_left(self.face_down, left);
     }
 }
 

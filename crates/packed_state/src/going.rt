@@ -1,5 +1,6 @@
 //! Moves on a packed board, and what they note for their undoing.
 ghost use Rattle.std.specs.Prelude.{◌≡◌, ◌≤◌, IsTrue, length};
+ghost use Rattle.std.specs.Option.{option_to_list};
 ghost use Rattle.game_rules.specs.Board.{has_place, has_cards};
 ghost use Rattle.game_rules.specs.Belonging.{Belongs};
 ghost use Rattle.game_rules.specs.Play.{is_legal_carry, is_legal_deal, is_legal_redeal, Legal, after, after_deal_to, after_redeal};
@@ -14,7 +15,18 @@ use game_model::Rules;
 use game_rules::{Move, Place, Target};
 use legal_moves::single_at;
 
-/// The cards that a legal carry moves.
+/// The card that a carry of one card moves. It takes no list.
+fn one_taken(rules: &Rules, board: &PackedBoard, from: Place) -> Option<Card>
+    requires { IsTrue (has_place rules.now board.now from) }
+    ensures { option_to_list result ≡ taken rules.now board.now from 1 }
+{
+    match from {
+        Place::Tableau(i) => board.pile(i).last().copied(),
+        _ => single_at(rules, board, from),
+    }
+}
+
+/// The cards that a carry moves.
 fn taken(rules: &Rules, board: &PackedBoard, from: Place, count: u8) -> ArrayVec<Card, 104>
     requires place { IsTrue (has_place rules.now board.now from) }
     requires enough { IsTrue (has_cards board.now from count) }
@@ -59,6 +71,35 @@ impl PackedBoard {
         }
     }
 
+    /// Carries cards from one place to another, given the cards.
+    fn carry_cards(
+        &mut self,
+        rules: &Rules,
+        from: Place,
+        to: Place,
+        count: u8,
+        cards: &[Card],
+    ) -> Undo
+        requires belongs { Belongs rules.now self.old }
+        requires legal { IsTrue (is_legal_carry rules.now self.old from to count) }
+        requires taken { cards.now ≡ taken rules.now self.old from count }
+        ensures moved { self.new ≡ after rules.now self.old (Move.Carry from to count) }
+        ensures noted { result ≡ undo_of rules.now self.old (Move.Carry from to count) }
+    {
+        let _ = rules.parts();
+        let undo = Undo::Carried {
+            from,
+            to,
+            count,
+            face_down: self.face_down_at(rules, from),
+            stacked: rules.stacked(),
+            noted: noted_on(to, cards),
+        };
+        self.put(to, cards);
+        self.remove(rules, from, count);
+        undo
+    }
+
     /// Carries cards from one place to another.
     fn carry(&mut self, rules: &Rules, from: Place, to: Place, count: u8) -> Undo
         requires belongs { Belongs rules.now self.old }
@@ -67,18 +108,12 @@ impl PackedBoard {
         ensures noted { result ≡ undo_of rules.now self.old (Move.Carry from to count) }
     {
         let _ = rules.parts();
+        if count == 1 {
+            let card = one_taken(rules, self, from);
+            return self.carry_cards(rules, from, to, count, card.as_slice());
+        }
         let cards = taken(rules, self, from, count);
-        let undo = Undo::Carried {
-            from,
-            to,
-            count,
-            face_down: self.face_down_at(rules, from),
-            stacked: rules.stacked(),
-            noted: noted_on(to, cards.as_slice()),
-        };
-        self.put(to, cards.as_slice());
-        self.remove(rules, from, count);
-        undo
+        self.carry_cards(rules, from, to, count, cards.as_slice())
     }
 
     /// Deals from the stock's top to where the rules say.

@@ -4,6 +4,7 @@
 //! `Undo` holds what a move changed, so that it and the packed board after the move determine the
 //! packed board before it.
 //! Above: `go` is the move and `back` gives the whole earlier packed board; the readers are exact.
+//! Which moves are legal, their list and winning are those of legal_moves and game_model.
 //! Refuses: `to_board` and `list_moves` for want of memory; nothing else takes memory.
 //! Not promised: time, and what lies in unused places of the fixed lists.
 #![tactic(auto)]
@@ -13,11 +14,10 @@ mod changing;
 mod dealing;
 mod going;
 mod packing;
-#[cfg(test)]
-mod profiles;
 mod reading;
 mod rows;
 mod spots;
+mod stock;
 mod table;
 #[cfg(test)]
 mod tests;
@@ -28,6 +28,7 @@ use arrayvec::ArrayVec;
 use card_piles::Card;
 use game_rules::{Place, Target};
 use std::marker::Model;
+pub use stock::StockUndo;
 
 // All types stand in this one file, so that definitions cite each by its short path.
 

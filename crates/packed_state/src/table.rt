@@ -1,8 +1,8 @@
-//! A packed board as a table of cards.
+//! A packed board as a table of cards, within this crate and to those above.
 ghost use Rattle.std.specs.Prelude.{◌≤◌, ◌<◌, take, length};
 ghost use Rattle.game_rules.specs.Board.{pile_at};
 
-use crate::PackedBoard;
+use crate::{Packed, PackedBoard};
 use card_piles::Card;
 use game_model::{Lowest, Table};
 
@@ -16,25 +16,15 @@ impl Table for PackedBoard {
     ghost cards = { λ b s. take s.size (pile_at b s.pile).cards };
 
     fn pile(&self, i: u8) -> Lowest {
-        Lowest {
-            pile: i,
-            size: self.pile(i).len(),
-        }
+        Lowest::all(i, self.pile(i))
     }
 
     fn top(&self, stack: Lowest) -> Option<Card> {
-        if stack.size == 0 {
-            None
-        } else {
-            Some(self.pile(stack.pile)[stack.size - 1])
-        }
+        stack.top(self.pile(stack.pile))
     }
 
     fn under(&self, stack: Lowest) -> Lowest {
-        Lowest {
-            pile: stack.pile,
-            size: stack.size.saturating_sub(1),
-        }
+        stack.under()
     }
 
     fn size(&self, i: u8) -> usize {
@@ -58,10 +48,7 @@ impl Table for PackedBoard {
     }
 
     fn last_entry(&self) -> Option<Card> {
-        match self.reserve().last() {
-            Some(entry) => *entry,
-            None => None,
-        }
+        self.reserve().last().copied().unwrap_or(None)
     }
 
     fn stock_size(&self) -> usize {
@@ -69,10 +56,7 @@ impl Table for PackedBoard {
     }
 
     fn waste_top(&self) -> Option<Card> {
-        match self.waste().last() {
-            Some(card) => Some(*card),
-            None => None,
-        }
+        self.waste().last().copied()
     }
 
     fn redeals_left(&self) -> u8 {
@@ -84,13 +68,80 @@ impl Table for PackedBoard {
     }
 
     fn hole_top(&self) -> Option<Card> {
-        match self.hole().last() {
-            Some(card) => Some(*card),
-            None => None,
-        }
+        self.hole().last().copied()
     }
 
     fn slot(&self, i: u8) -> Option<Card> {
         self.slot(i)
+    }
+}
+
+impl Table for Packed {
+    type Stack = Lowest;
+
+    ghost board = { λ p. p.board };
+
+    ghost stands = { λ p s. (s.pile < length p.board.piles) × (s.size ≤ length (pile_at p.board s.pile).cards) };
+
+    ghost cards = { λ p s. take s.size (pile_at p.board s.pile).cards };
+
+    fn pile(&self, i: u8) -> Lowest {
+        Lowest::all(i, self.board.pile(i))
+    }
+
+    fn top(&self, stack: Lowest) -> Option<Card> {
+        self.board.top(stack)
+    }
+
+    fn under(&self, stack: Lowest) -> Lowest {
+        self.board.under(stack)
+    }
+
+    fn size(&self, i: u8) -> usize {
+        self.board.size(i)
+    }
+
+    fn face_down(&self, i: u8) -> u8 {
+        self.board.face_down(i)
+    }
+
+    fn cell(&self, i: u8) -> Option<Card> {
+        self.board.cell(i)
+    }
+
+    fn entry_count(&self) -> usize {
+        self.board.entry_count()
+    }
+
+    fn entry(&self, i: u8) -> Option<Card> {
+        self.board.entry(i)
+    }
+
+    fn last_entry(&self) -> Option<Card> {
+        self.board.last_entry()
+    }
+
+    fn stock_size(&self) -> usize {
+        self.board.stock_size()
+    }
+
+    fn waste_top(&self) -> Option<Card> {
+        self.board.waste_top()
+    }
+
+    fn redeals_left(&self) -> u8 {
+        self.board.redeals_left()
+    }
+
+    fn height(&self, f: u8) -> u8 {
+        self.board.height(f)
+    }
+
+    fn hole_top(&self) -> Option<Card> {
+        self.board.hole_top()
+    }
+
+    fn slot(&self, i: u8) -> Option<Card> {
+        self.board.slot(i)
     }
 }

@@ -12,16 +12,6 @@ use arrayvec::ArrayVec;
 use card_piles::Card;
 use game_rules::Place;
 
-/// The card of an entry as a list.
-fn append_entry(list: &mut ArrayVec<Card, 104>, entry: Option<Card>)
-    requires { list.old.items ≡ [] }
-    ensures { list.new.items ≡ option_to_list entry }
-{
-    if let Some(card) = entry {
-        list.push(card);
-    }
-}
-
 /// The last cards of a list, and all where it has fewer.
 fn append_last(list: &mut ArrayVec<Card, 104>, cards: &[Card], count: u8)
     requires empty { list.old.items ≡ [] }
@@ -50,21 +40,36 @@ impl PackedPile {
 }
 
 impl PackedBoard {
-    /// The last cards of a place that they were put on.
-    fn last_put(&self, to: Place, count: u8, noted: &[Card]) -> ArrayVec<Card, 104>
-        requires place { IsTrue (has_entry self.now to) }
-        requires few { length noted.now ≤ 13 }
-        ensures { result.items ≡ last_put self.now to count noted.now }
+    /// The card of a place that one card was put on, and none of a foundation. It takes no list.
+    fn one_put(&self, to: Place) -> Option<Card>
+        requires { IsTrue (has_entry self.now to) }
+        ensures { option_to_list result ≡ last_put self.now to 1 [] }
+    {
+        match to {
+            Place::Tableau(i) => self.pile(i).last().copied(),
+            Place::Cell(i) => self.cell(i),
+            Place::Foundation(_) => None,
+            Place::Hole => self.hole().last().copied(),
+            Place::Slot(i) => self.slot(i),
+            Place::Reserve(_) => None,
+            Place::Waste => None,
+        }
+    }
+
+    /// The last cards of a place that they were put on, and none of a foundation.
+    fn last_put(&self, to: Place, count: u8) -> ArrayVec<Card, 104>
+        requires { IsTrue (has_entry self.now to) }
+        ensures { result.items ≡ last_put self.now to count [] }
     {
         let mut cards = ArrayVec::new();
         match to {
             Place::Tableau(i) => append_last(&mut cards, self.pile(i), count),
-            Place::Cell(i) => append_entry(&mut cards, self.cell(i)),
-            Place::Foundation(_) => append(&mut cards, noted),
             Place::Hole => append_last(&mut cards, self.hole(), count),
-            Place::Slot(i) => append_entry(&mut cards, self.slot(i)),
-            Place::Reserve(_) => {}
-            Place::Waste => {}
+            _ => {
+                if let Some(card) = self.one_put(to) {
+                    cards.push(card);
+                }
+            }
         }
         cards
     }
@@ -145,6 +150,49 @@ impl PackedBoard {
         self.redeals_left = redeals_left;
     }
 
+    /// Carries cards back to the place that they were taken from, given the cards.
+    fn return_cards(
+        &mut self,
+        from: Place,
+        to: Place,
+        count: u8,
+        stacked: bool,
+        face_down: u8,
+        cards: &[Card],
+    )
+        requires here { IsTrue (has_entry self.old to) }
+        requires room { IsTrue (has_room stacked (without_last_put self.old to count) from (length cards.now)) }
+        ensures { self.new ≡ with_back stacked face_down (without_last_put self.old to count) from cards.now }
+    {
+        self.take_off(to, count);
+        self.give_back(from, stacked, face_down, cards);
+    }
+
+    /// Carries cards back to the place that they were taken from.
+    fn uncarry(
+        &mut self,
+        from: Place,
+        to: Place,
+        count: u8,
+        stacked: bool,
+        face_down: u8,
+        noted: &[Card],
+    )
+        requires here { IsTrue (has_entry self.old to) }
+        requires room { IsTrue (has_room stacked (without_last_put self.old to count) from (length (last_put self.old to count noted.now))) }
+        ensures { self.new ≡ with_back stacked face_down (without_last_put self.old to count) from (last_put self.old to count noted.now) }
+    {
+        if let Place::Foundation(_) = to {
+            return self.return_cards(from, to, count, stacked, face_down, noted);
+        }
+        if count == 1 {
+            let card = self.one_put(to);
+            return self.return_cards(from, to, count, stacked, face_down, card.as_slice());
+        }
+        let cards = self.last_put(to, count);
+        self.return_cards(from, to, count, stacked, face_down, cards.as_slice());
+    }
+
     /// Takes a move back.
     pub(crate) fn unmake(&mut self, undo: Undo)
         requires { IsTrue (fits_undo undo self.old) }
@@ -159,9 +207,7 @@ impl PackedBoard {
                 stacked,
                 noted,
             } => {
-                let cards = self.last_put(to, count, noted.as_slice());
-                self.take_off(to, count);
-                self.give_back(from, stacked, face_down, cards.as_slice());
+                self.uncarry(from, to, count, stacked, face_down, noted.as_slice());
             }
             Undo::Dealt { to, count } => self.undeal(to, count),
             Undo::Redealt { redeals_left } => self.unredeal(redeals_left),

@@ -17,6 +17,8 @@ mod report;
 mod solved;
 mod status;
 #[cfg(test)]
+mod stock_games;
+#[cfg(test)]
 mod tests;
 mod texts;
 mod top;

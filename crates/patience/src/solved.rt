@@ -26,7 +26,7 @@ const LITTLE_DEAL: &str = r#"{"tableau":[
 ["AH","2D","6D","3D","5S","AC"]]}"#;
 
 /// A shelf with the two files.
-fn shelf_of(alloc: Global, rules: &str, deal: &str) -> Result<MemoryShelf, Fail> {
+pub fn shelf_of(alloc: Global, rules: &str, deal: &str) -> Result<MemoryShelf, Fail> {
     let mut shelf = MemoryShelf::new(alloc);
     shelf.add("rules", rules.as_bytes())?;
     shelf.add("deal", deal.as_bytes())?;
@@ -34,7 +34,7 @@ fn shelf_of(alloc: Global, rules: &str, deal: &str) -> Result<MemoryShelf, Fail>
 }
 
 /// What is printed to the words, whose job is to be done.
-fn printed(
+pub fn printed(
     rt: &impl Abort,
     alloc: Global,
     shelf: &mut MemoryShelf,

@@ -1,5 +1,5 @@
 //! What a carry and a redeal change on a board.
-ghost use Rattle.std.specs.Prelude.{◌≡◌, ◌≤◌, ◌<◌, ◌+◌, ◌++◌, length, IsTrue, OnOk, OnErr};
+ghost use Rattle.std.specs.Prelude.{◌≡◌, ◌≤◌, ◌<◌, ◌+◌, ◌-◌, ◌++◌, min, length, IsTrue, OnOk, OnErr};
 ghost use Rattle.game_rules.specs.Board.{has_entry, has_place, has_cards, number_at};
 ghost use Rattle.game_rules.specs.Taking.{without, pile_without};
 ghost use Rattle.game_rules.specs.Putting.{with_cards};
@@ -9,6 +9,17 @@ use super::{Board, Pile};
 use crate::rules::Rules;
 use card_piles::{Card, NoMemory};
 use game_rules::{Place, Redeals};
+
+/// How many cards of a pile lie face down when so many cards are left, of which the top lies face up.
+pub fn face_down_left(face_down: u8, left: usize) -> u8
+    ensures { result ≡ min face_down (left - 1) }
+{
+    if left <= usize::from(face_down) {
+        left.saturating_sub(1) as u8
+    } else {
+        face_down
+    }
+}
 
 impl Pile {
     fn put(&mut self, cards: &[Card]) -> Result<(), NoMemory>
@@ -25,14 +36,16 @@ impl Pile {
     {
         let left = self.cards.len() - usize::from(count);
         self.cards.truncate(left);
-        if left <= usize::from(self.face_down) {
-            self.face_down = left.saturating_sub(1) as u8;
-        }
+        self.face_down = face_down_left(self.face_down, left);
     }
 }
 
 impl Board {
-    /// Puts cards on a place of the board.
+    /// Puts cards on a place of the board, one at least; the reserve and the waste take none. After
+    /// a refusal the board is as before.
+    ///
+    /// It is a part of a carry, and does not ask whether the cards fit: the board need not belong to
+    /// the rules afterwards. `legal_moves::play` makes whole legal moves.
     pub fn put(&mut self, to: Place, cards: &[Card]) -> Result<(), NoMemory>
         requires place { IsTrue (has_entry self.old to) }
         requires some { 0 < length cards.now }
@@ -66,7 +79,11 @@ impl Board {
         }
     }
 
-    /// Removes the last cards of a place of the board.
+    /// Removes the last cards of a place of the board: as many as are said of a pile, the one card
+    /// of another place, and none of the hole. The new top of a pile is turned up.
+    ///
+    /// It is a part of a carry, and drops the cards: the board need not belong to the rules
+    /// afterwards. `legal_moves::play` makes whole legal moves.
     pub fn remove(&mut self, rules: &Rules, from: Place, count: u8)
         requires place { IsTrue (has_place rules.now self.old from) }
         requires enough { IsTrue (has_cards self.old from count) }
@@ -102,7 +119,10 @@ impl Board {
         }
     }
 
-    /// Makes the stock of the waste.
+    /// Makes the stock of the waste, and counts the redeal where redeals are counted.
+    ///
+    /// It asks that the redeal is legal. It does not say of a board that did not belong to the rules
+    /// before that it does afterwards; `legal_moves::play` keeps boards that belong.
     pub fn redeal(&mut self, rules: &Rules)
         requires { IsTrue (is_legal_redeal rules.now self.old) }
         ensures { self.new ≡ after_redeal rules.now self.old }

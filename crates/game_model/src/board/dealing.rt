@@ -87,6 +87,9 @@ impl Board {
     /// Deals from the stock's top to where the rules say: to the waste as many cards as are drawn
     /// at once, to the tableau one on each of the first piles, to the hole one. Where the stock
     /// has fewer cards, it deals these. After a refusal the board is as before.
+    ///
+    /// It does not ask whether the deal is legal: from an empty stock it deals nothing, and the
+    /// board need not belong to the rules afterwards. `legal_moves::play` makes whole legal moves.
     pub fn deal(&mut self, rules: &Rules) -> Result<(), NoMemory>
         ensures dealt { OnOk result (self.new ≡ after_deal_to rules.now.target rules.now self.old) }
         ensures as_before { OnErr result (self.new ≡ self.old) }

@@ -1,28 +1,7 @@
 use Rattle.game_rules.proofs.Limits.{limits_of}
-use Rattle.game_rules.proofs.LegalFacts.{carry_facts, carry_needs}
-use Rattle.game_rules.proofs.Carrying.{put_first}
-use Rattle.packed_state.proofs.Returning.{few-noted, carry-fits}
+use Rattle.game_rules.proofs.LegalFacts.{carry_needs}
 use Rattle.packed_state.proofs.PackedBoard.carry.Goals as goal
 
 pub taken-cards-requires-clause-enough : goal.taken-cards-requires-clause-enough
 taken-cards-requires-clause-enough c =
     (carry_needs c.args.rules.now c.args.self.now c.args.from c.args.to c.args.count (limits_of c.args.rules.now c.parts.ensures.playable) c.ranges.count.fits c.requires.legal).enough
-
-pub noted_on-requires : goal.noted_on-requires
-noted_on-requires c =
-    rw (c.as_slice.ensures.value, c.taken-cards.ensures)
-    (few-noted c.args.rules.now c.args.self.now c.args.from c.args.to c.args.count c.parts.ensures.playable c.requires.legal)
-
-pub put-requires : goal.put-requires
-put-requires c =
-    record { room = rw (c.as_slice-2.ensures.value, c.taken-cards.ensures) (carry-fits c.args.rules.now c.args.self.now c.args.from c.args.to c.args.count c.parts.ensures.playable c.requires.belongs c.requires.legal) }
-
-pub remove-requires-clause-enough : goal.remove-requires-clause-enough
-remove-requires-clause-enough c =
-    rw (c.put.ensures, c.as_slice-2.ensures.value, c.taken-cards.ensures)
-    (carry_needs c.args.rules.now c.args.self.now c.args.from c.args.to c.args.count (limits_of c.args.rules.now c.parts.ensures.playable) c.ranges.count.fits c.requires.legal).still_enough
-
-pub returns-clause-moved : goal.returns-clause-moved
-returns-clause-moved c =
-    rw (c.remove.ensures, c.put.ensures, c.as_slice-2.ensures.value, c.taken-cards.ensures)
-    (put_first c.args.rules.now c.args.self.now c.args.from c.args.to c.args.count _ (carry_facts c.args.rules.now c.args.self.now c.args.from c.args.to c.args.count c.requires.legal).apart)

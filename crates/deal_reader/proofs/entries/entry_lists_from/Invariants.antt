@@ -1,9 +1,0 @@
-use Rattle.std.proofs.Common.{◌≡◌, drop}
-use Rattle.serde_json.specs.View.{items_view}
-use Rattle.deal_reader.specs.Entries.{entry_at, lists_from}
-use Rattle.deal_reader.proofs.Lists.{with_front}
-use Rattle.deal_reader.proofs.entries.entry_lists_from.Given as goal
-
--- the lists so far, before those of the rest, are those of the whole
-abbrev pub invariant-loop-value : goal.invariant-loop-value
-invariant-loop-value l = with_front l.lists (lists_from l.part (entry_at l.part) l.at (items_view (drop l.value-index l.list))) ≡ lists_from l.part (entry_at l.part) 0 (items_view l.list)

@@ -1,0 +1,9 @@
+-- A count that is raised by one, or stands at its last value, rose.
+use Rattle.std.proofs.Common.{◌≡◌, ℕ, sym, subst, arith}
+use Rattle.outside_io.specs.Faults.{Rose, one_more}
+
+pub Rose-one_more : (count : ℕ) → Rose count (one_more count)
+Rose-one_more count = grind arith
+
+pub Rose-raised : (before now : ℕ) → now ≡ one_more before → Rose before now
+Rose-raised before now raised = subst (Rose before) (sym raised) (Rose-one_more before)

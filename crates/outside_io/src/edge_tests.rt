@@ -1,0 +1,131 @@
+//! Readers that give little at a time, writers that take little at a time, and both failing in between.
+
+use crate::reading::read_up_to;
+use crate::writing::write_whole;
+use crate::{ShelfFault, SinkFailed};
+use std::io::{self, ErrorKind, Read, Write};
+use std::test::Fail;
+
+/// Gives two bytes at most at a time, and fails at the read of a number, counted from 0.
+#[derive(Drop)]
+struct SlowReader<'a> {
+    rest: &'a [u8],
+    reads: u32,
+    failing: u32,
+}
+
+impl Read for SlowReader<'_> {
+    fn read(&mut self, buf: &mut [u8]) -> io::Result<usize> {
+        let now = self.reads;
+        self.reads = now.saturating_add(1);
+        if now == self.failing {
+            return Err(ErrorKind::Other.into());
+        }
+        let count = self.rest.len().min(buf.len()).min(2);
+        buf[..count].copy_from_slice(&self.rest[..count]);
+        self.rest = &self.rest[count..];
+        Ok(count)
+    }
+}
+
+/// Takes two bytes at most at a time. It fails at the write of one number, and takes nothing at that of another.
+#[derive(Drop)]
+struct SlowWriter {
+    taken: Vec<u8>,
+    writes: u32,
+    failing: u32,
+    idle: u32,
+}
+
+impl Write for SlowWriter {
+    fn write(&mut self, buf: &[u8]) -> io::Result<usize> {
+        let now = self.writes;
+        self.writes = now.saturating_add(1);
+        if now == self.failing {
+            return Err(ErrorKind::Other.into());
+        }
+        let count = if now == self.idle {
+            0
+        } else {
+            buf.len().min(2)
+        };
+        match self.taken.extend_from_slice(&buf[..count]) {
+            Ok(()) => Ok(count),
+            Err(_) => Err(ErrorKind::OutOfMemory.into()),
+        }
+    }
+
+    fn flush(&mut self) -> io::Result<()> {
+        Ok(())
+    }
+}
+
+#[test]
+fn short_reads_are_put_together(rt: HostRuntime) -> Result<(), Fail> {
+    for (limit, expected) in [(0, "a"), (1, "ab"), (3, "abcd"), (4, "abcde"), (9, "abcde")] {
+        let mut out = Vec::new(rt.alloc());
+        let mut faults = 7;
+        let mut file = SlowReader {
+            rest: b"abcde",
+            reads: 0,
+            failing: 99,
+        };
+        assert_eq!(rt; read_up_to(&mut file, limit, &mut out, &mut faults), Ok(()));
+        assert_eq!(rt; out.as_slice(), expected.as_bytes(), "up to {limit}");
+        assert_eq!(rt; faults, 7);
+    }
+    Ok(())
+}
+
+#[test]
+fn a_read_that_fails_is_no_end(rt: HostRuntime) -> Result<(), Fail> {
+    for failing in [0, 1, 3] {
+        let mut out = Vec::new(rt.alloc());
+        let mut faults = 7;
+        let mut file = SlowReader {
+            rest: b"abcde",
+            reads: 0,
+            failing,
+        };
+        let read = read_up_to(&mut file, 9, &mut out, &mut faults);
+        assert_eq!(rt; read, Err(ShelfFault::Failed), "at read {failing}");
+        assert_eq!(rt; faults, 8);
+    }
+    Ok(())
+}
+
+#[test]
+fn a_reader_that_tells_its_bytes(rt: HostRuntime) -> Result<(), Fail> {
+    let mut out = Vec::new(rt.alloc());
+    let mut faults = 0;
+    let mut file: &[u8] = b"abcdef";
+    assert_eq!(rt; read_up_to(&mut file, 2, &mut out, &mut faults), Ok(()));
+    assert_eq!(rt; out.as_slice(), b"abc".as_slice());
+    assert_eq!(rt; file, b"def".as_slice());
+    Ok(())
+}
+
+#[test]
+fn short_writes_are_gone_on_with(rt: HostRuntime) {
+    for (failing, idle, written, taken) in [
+        (99, 99, Ok(()), "abcde"),
+        (1, 99, Err(SinkFailed), "ab"),
+        (0, 99, Err(SinkFailed), ""),
+        (99, 2, Err(SinkFailed), "abcd"),
+    ] {
+        let mut writer = SlowWriter {
+            taken: Vec::new(rt.alloc()),
+            writes: 0,
+            failing,
+            idle,
+        };
+        let mut faults = u64::MAX - 1;
+        assert_eq!(rt;
+            write_whole(&mut writer, b"abcde", &mut faults),
+            written,
+            "{failing}, {idle}"
+        );
+        assert_eq!(rt; writer.taken.as_slice(), taken.as_bytes());
+        assert_eq!(rt; faults == u64::MAX, written.is_err());
+    }
+}

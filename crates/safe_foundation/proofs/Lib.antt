@@ -1,0 +1,4 @@
+pub mod Giving
+pub mod Places
+pub mod Forcing
+pub mod Needing

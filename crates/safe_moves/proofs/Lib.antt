@@ -1,0 +1,11 @@
+pub mod Elsewhere
+pub mod AtHome
+pub mod SafeFacts
+pub mod SafeCases
+pub mod SafeExchange
+pub mod SafeListed
+pub mod FirstSafe
+pub mod StepsWin
+pub mod HomePlace
+pub mod NotNeeded
+pub mod SafeRows

@@ -1,0 +1,26 @@
+-- A safe move is legal.
+use Rattle.std.proofs.Common.{◌≡◌, Bool, true, false, ◌&&◌, sym, subst, arith}
+use Rattle.std.specs.Prelude.{IsTrue, ◌==◌}
+use Rattle.std.specs.List.{list_all}
+use Rattle.std.proofs.lemmas.List.Folds.{list_any_at}
+use Rattle.game_rules.specs.declared.RuleParts.{RuleParts}
+use Rattle.game_rules.specs.declared.Move.{Move}
+use Rattle.game_rules.specs.declared.Move.TheVariants.{Carry, Deal, Redeal}
+use Rattle.game_rules.specs.Board.{Board}
+use Rattle.game_rules.specs.Taking.{taken}
+use Rattle.game_rules.specs.Play.{Legal, is_legal_move}
+use Rattle.game_rules.specs.Order.{legal_moves}
+use Rattle.safe_moves.specs.Safe.{rules_allow, is_safe, is_not_needed, gives_safely, is_foundation}
+use Rattle.safe_moves.specs.Need.{has_safe_move}
+use Rattle.game_rules.proofs.Limits.{both}
+use Rattle.game_rules.proofs.MovesListed.{legal_moves-exact}
+
+pub legal-from_safe : (rules : RuleParts) (board : Board) (move : Move) → IsTrue (is_safe rules board move) → Legal rules board move
+legal-from_safe rules board (Carry from to count) h =
+    let to_free = both _ _ h in
+    let to_foundation = both _ _ to_free.0 in
+    let to_gives = both _ _ to_foundation.0 in
+    let to_count = both (rules_allow rules && is_legal_move rules board (Carry from to count)) (count == 1) to_gives.0 in
+    (both (rules_allow rules) (is_legal_move rules board (Carry from to count)) to_count.0).1
+legal-from_safe rules board Deal h = absurd (grind (arith, h))
+legal-from_safe rules board Redeal h = absurd (grind (arith, h))

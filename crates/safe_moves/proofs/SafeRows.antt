@@ -1,0 +1,94 @@
+-- Small boards with and without a safe move, worked out by the definitions alone.
+use Rattle.std.proofs.Common.{◌≡◌, ℕ, true, false, List, [], ◌∷◌, refl}
+use Rattle.std.specs.Prelude.{Option, None}
+use Rattle.card_piles.specs.declared.Card.{Card}
+use Rattle.card_piles.specs.declared.Suit.{Suit}
+use Rattle.card_piles.specs.declared.Suit.TheVariants.{Clubs}
+use Rattle.card_piles.specs.declared.Build.TheVariants.{RedBlack}
+use Rattle.game_rules.specs.declared.RuleParts.{RuleParts}
+use Rattle.game_rules.specs.declared.Layout.TheVariants.{Even}
+use Rattle.game_rules.specs.declared.Face.TheVariants.{AllUp}
+use Rattle.game_rules.specs.declared.Groups.TheVariants.{One}
+use Rattle.game_rules.specs.declared.Spaces.TheVariants.{NoFill}
+use Rattle.game_rules.specs.declared.Target.TheVariants.{ToWaste}
+use Rattle.game_rules.specs.declared.Redeals.TheVariants.{Times}
+use Rattle.game_rules.specs.declared.Goal.TheVariants.{Foundations}
+use Rattle.game_rules.specs.declared.Move.{Move}
+use Rattle.game_rules.specs.declared.Move.TheVariants.{Carry}
+use Rattle.game_rules.specs.declared.Place.TheVariants.{Tableau, Cell, Foundation}
+use Rattle.game_rules.specs.Board.{Board, Pile}
+use Rattle.safe_moves.specs.Safe.{is_safe}
+use Rattle.safe_moves.specs.Steps.{steps}
+
+abbrev card : Suit → ℕ → Card
+card s r = record { suit = s; rank = r }
+
+abbrev up : List Card → Pile
+up cards = record { cards = cards; face_down = 0 }
+
+-- four ranks, two piles, one cell, and cards that build on the other colour
+abbrev four_ranks : ℕ → RuleParts
+four_ranks decks = record {
+  decks = decks;
+  max_rank = 4;
+  piles = 2;
+  layout = Even;
+  face = AllUp;
+  build = RedBlack;
+  wrap = false;
+  groups = One;
+  group_build = RedBlack;
+  spaces = NoFill;
+  goal = Foundations 1 false false false;
+  cells = 1;
+  cells_filled = 0;
+  reserve = 0;
+  stacked = false;
+  stock = 0;
+  target = ToWaste;
+  draw = 1;
+  redeals = Times 0;
+}
+
+abbrev board_of : List Pile → Option Card → List ℕ → Board
+board_of piles cell heights = record {
+  piles = piles;
+  cells = cell ∷ [];
+  reserve = [];
+  stock = [];
+  waste = [];
+  redeals_left = 0;
+  heights = heights;
+  hole = [];
+  slots = [];
+}
+
+-- an ace is safe, and its move home is the one step
+abbrev ace_free : Board
+ace_free = board_of (up (card Clubs 2 ∷ card Clubs 3 ∷ card Clubs 4 ∷ []) ∷ up (card Clubs 1 ∷ []) ∷ []) None (0 ∷ 4 ∷ 4 ∷ 4 ∷ [])
+
+pub ace_free-steps : steps (four_ranks 1) ace_free ≡ Carry (Tableau 1) (Foundation 0) 1 ∷ []
+ace_free-steps = refl
+
+-- a two is safe only once both aces of the other colour are home, and with one deck
+abbrev two_free : ℕ → ℕ → Board
+two_free diamonds hearts = board_of (up (card Clubs 2 ∷ []) ∷ up [] ∷ []) None (1 ∷ diamonds ∷ hearts ∷ 4 ∷ [])
+
+abbrev two_home : Move
+two_home = Carry (Tableau 0) (Foundation 0) 1
+
+pub two_needed_by_both : is_safe (four_ranks 1) (two_free 0 0) two_home ≡ false
+two_needed_by_both = refl
+
+pub two_needed_by_one : is_safe (four_ranks 1) (two_free 1 0) two_home ≡ false
+two_needed_by_one = refl
+
+pub two_needed_by_none : is_safe (four_ranks 1) (two_free 1 1) two_home ≡ true
+two_needed_by_none = refl
+
+pub two_of_two_decks : is_safe (four_ranks 2) (two_free 1 1) two_home ≡ false
+two_of_two_decks = refl
+
+-- a move to a cell is never safe
+pub to_cell : is_safe (four_ranks 1) (two_free 1 1) (Carry (Tableau 0) (Cell 0) 1) ≡ false
+to_cell = refl
