@@ -36,7 +36,7 @@ plain_steps rules start = λ p is_trail. legal_moves-once rules (end (plain_game
 
 -- how a verdict ends its walk: a trail with a won end follows, or the walk is closed, or a trail to a new board
 -- follows that is not won
-Ends : (rules : RuleParts) → Board → ℕ → List (List Move) → Verdict → Type 0
+abbrev Ends : RuleParts → Board → ℕ → List (List Move) → Verdict → Type 0
 Ends rules start limit walk (verdict.Winnable line nodes narrow_nodes) =
     Follows (plain_game rules) start walk line × Won rules (end (plain_game rules) start line)
 Ends rules start limit walk (verdict.Unwinnable nodes narrow_nodes) = IsClosed (plain_game rules) start walk
@@ -44,7 +44,8 @@ Ends rules start limit walk (verdict.Undecided nodes narrow_nodes) =
     (length walk ≡ limit) × (z : List Move) × Follows (plain_game rules) start walk z × IsOpen (plain_game rules) start walk z
     × (¬ Won rules (end (plain_game rules) start z))
 
-narrow_of : Verdict → ℕ
+-- the nodes of a narrow search
+abbrev narrow_of : Verdict → ℕ
 narrow_of (verdict.Winnable line nodes narrow_nodes) = narrow_nodes
 narrow_of (verdict.Unwinnable nodes narrow_nodes) = narrow_nodes
 narrow_of (verdict.Undecided nodes narrow_nodes) = narrow_nodes

@@ -16,7 +16,7 @@ module _ {State Step : Type 0} (game : Game State Step) (start : State) where
   pub IsFresh-less : (c d : ℕ) (list : List (List Step)) → d ≤ c → IsFresh game c start list → IsFresh game d start list
   IsFresh-less c d list less fresh earlier between later l z e same others =
       let far = fresh earlier between later l z e same others in
-      record far { many = omega (arith, less, far.many) }
+      record { touched = far.touched; many = omega (arith, less, far.many); differ = far.differ; others = far.others; each = far.each }
 
   module _ (alike : IsAlike game) where
     -- where the two together are fresh up to the length of the walk, the trail that follows it ends in a new state

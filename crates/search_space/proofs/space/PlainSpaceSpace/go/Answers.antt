@@ -1,6 +1,7 @@
 use Rattle.std.proofs.Common.{ap, sym, subst, ◌∙◌, Contains}
-use Rattle.std.specs.Prelude.{Some}
+use Rattle.std.specs.Prelude.{Some, ◌↔◌}
 use Rattle.game_rules.specs.Order.{legal_moves}
+use Rattle.game_rules.specs.Winning.{Wins}
 use Rattle.game_rules.proofs.MovesListed.{legal_moves-exact}
 use Rattle.packed_state.specs.Packed.{board_of}
 use Rattle.search_space.specs.Plain.{Standing}
@@ -16,3 +17,7 @@ pub returns-clause-undo : goal.returns-clause-undo
 returns-clause-undo c =
     before_of-some c.self.inside.rules.now c.go.result c.go.new.self c.self.inside.packed c.self.invariant.0 c.self.invariant.1 c.go.ensures.can_go_back
     ∙ ap (λ (s : Standing). Some s) c.self.view_is
+
+pub returns-clause-wins : goal.returns-clause-wins
+returns-clause-wins c = λ n board.
+    subst (λ (s : Standing). Wins c.self.inside.rules.now n board ↔ Wins s.rules n board) c.self.view_is (λ wins. wins, λ wins. wins)
