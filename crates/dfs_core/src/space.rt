@@ -1,6 +1,6 @@
 //! What is searched.
 
-ghost use Rattle.std.specs.Prelude.{◌≡◌, ◌≢◌, ℕ, Option, List, ◌++◌, OnOk, IsSome, Contains, AllPairs};
+ghost use Rattle.std.specs.Prelude.{◌≡◌, ◌≢◌, ◌↔◌, ℕ, Option, List, ◌++◌, OnOk, IsSome, Contains, AllPairs};
 ghost use Rattle.dfs_core.specs.Play.{Play};
 
 use std::alloc::Global;
@@ -31,7 +31,7 @@ pub trait Space {
     /// What an undo and a space together determine: the space before the step.
     ghost before: { Self.Undo → Self → Option Self };
 
-    /// Which states win within a number of moves.
+    /// Which states win within a number of moves. No call changes it.
     ghost wins: { Self → ℕ → Self.State → Type 0 };
 
     /// Appends the steps of the state in their order. No step stands twice. The space stays as it is, also after an
@@ -46,7 +46,8 @@ pub trait Space {
         requires { Contains ((play self.old).steps (state self.old)) step }
         ensures state { state self.new ≡ (play self.old).after (state self.old) step }
         ensures undo { before result self.new ≡ Some self.old }
-        ensures play { play self.new ≡ play self.old };
+        ensures play { play self.new ≡ play self.old }
+        ensures wins { (n : ℕ) (s : Self.State) → wins self.new n s ↔ wins self.old n s };
 
     /// Takes a step back, to the very space before it.
     fn back(&mut self, undo: Self::Undo)

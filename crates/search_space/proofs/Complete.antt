@@ -1,7 +1,7 @@
--- Every win has a step that comes nearer to it.
-use Rattle.std.proofs.Common.{◌≡◌, ℕ, suc, ◌≤◌, true, List, [], ◌∷◌, length, refl, subst, arith, Contains}
+-- Every win has a step that comes nearer to it, and boards that count as the same win alike.
+use Rattle.std.proofs.Common.{◌≡◌, ℕ, suc, ◌≤◌, List, [], ◌∷◌, length, refl, subst, arith, Contains}
 use Rattle.std.specs.Prelude.{nat_eq}
-use Rattle.std.specs.Cmp.Lexicographic.{pointwise, bytes_decides}
+use Rattle.std.specs.Cmp.Lexicographic.{pointwise}
 use Rattle.trails.specs.Complete.{IsComplete, IsReached}
 use Rattle.game_rules.specs.declared.RuleParts.{RuleParts}
 use Rattle.game_rules.specs.declared.Move.{Move}
@@ -9,16 +9,16 @@ use Rattle.game_rules.specs.Conflicts.{IsPlayable}
 use Rattle.game_rules.specs.Board.{Board}
 use Rattle.game_rules.specs.Play.{after}
 use Rattle.game_rules.specs.Order.{legal_moves}
-use Rattle.game_rules.specs.Winning.{is_won, Won, Line, Wins}
+use Rattle.game_rules.specs.Winning.{Won, Line, Wins}
 use Rattle.game_rules.specs.Belonging.{Belongs}
-use Rattle.game_rules.proofs.Limits.{limits_of}
 use Rattle.game_rules.proofs.MovesListed.{legal_moves-exact}
-use Rattle.game_rules.proofs.Ranks.{ranks-belong}
+use Rattle.same_boards.specs.Same.{Same}
+use Rattle.same_boards.proofs.SameWins.{same-wins}
 use Rattle.dfs_core.specs.Play.{game_of}
-use Rattle.search_space.specs.Keys.{key_of}
+use Rattle.search_space.specs.Game.{plain_game}
 use Rattle.search_space.specs.Plain.{play_of}
-use Rattle.search_space.proofs.KeysApart.{key_of-apart}
-use Rattle.search_space.proofs.Reached.{reached-belongs}
+use Rattle.search_space.proofs.Alike.{keys-compared}
+use Rattle.search_space.proofs.Reached.{by_moves, reached-belongs}
 
 won-at_once : (rules : RuleParts) (board last : Board) (moves : List Move) → length moves ≤ 0 → Line rules board moves last → Won rules last → Won rules board
 won-at_once rules board last [] short line won = subst (Won rules) line won
@@ -31,22 +31,31 @@ nearer-by_line rules n board last (move ∷ moves) not_won short line won =
     let fewer : length moves ≤ n = omega (arith, short) in
     (move, (legal_moves-exact rules board move).1 line.0, record { moves = moves; end = last; short = fewer; line = line.1; won = won })
 
--- boards that belong to the rules are equal where their keys are
-pub equal-by_keys : (rules : RuleParts) (a b : Board) → IsPlayable rules → Belongs rules a → Belongs rules b
-    → pointwise nat_eq (key_of a) (key_of b) ≡ true → a ≡ b
-equal-by_keys rules a b playable belongs belongs' same =
-    key_of-apart a b (ranks-belong rules a (limits_of rules playable) belongs) (ranks-belong rules b (limits_of rules playable) belongs')
-    ((bytes_decides (key_of a) (key_of b)).0 same)
-
-pub plain-is_complete : (rules : RuleParts) (start : Board) → IsPlayable rules → Belongs rules start
-    → IsComplete (game_of (play_of rules) (pointwise nat_eq)) (Wins rules) start
-plain-is_complete rules start playable belongs =
-    let is : (board : Board) → IsReached (game_of (play_of rules) (pointwise nat_eq)) start board → Belongs rules board =
-    λ board reached. reached-belongs rules (λ s. is_won rules s ≡ true) (λ s t. pointwise nat_eq (key_of s) (key_of t) ≡ true) playable
-    start board belongs reached in
+-- a game of legal moves is complete where no boards count as the same but those that are
+complete-up_to_same : (rules : RuleParts) (Counts : Board → Board → Type 0) (start : Board) → IsPlayable rules → Belongs rules start
+    → ((a b : Board) → Belongs rules a → Belongs rules b → Counts a b → Same rules a b)
+    → IsComplete (by_moves rules (Won rules) Counts) (Wins rules) start
+complete-up_to_same rules Counts start playable belongs are =
+    let is : (board : Board) → IsReached (by_moves rules (Won rules) Counts) start board → Belongs rules board =
+    λ board reached. reached-belongs rules (Won rules) Counts playable start board belongs reached in
     record {
       none = λ s reached wins. won-at_once rules s wins.end wins.moves wins.short wins.line wins.won;
       won = λ s reached is_won. record { moves = []; end = s; short = omega arith; line = refl; won = is_won };
-      alike = λ n s t reached reached' same wins. subst (Wins rules n) (equal-by_keys rules s t playable (is s reached) (is t reached') same) wins;
+      alike = λ n s t reached reached' counts wins.
+          same-wins rules s t n playable (is s reached) (is t reached') (are s t (is s reached) (is t reached') counts) wins;
       nearer = λ n s reached not_won wins. nearer-by_line rules n s wins.end wins.moves not_won wins.short wins.line wins.won;
     }
+
+-- up to the same boards
+pub plain_game-is_complete : (rules : RuleParts) (start : Board) → IsPlayable rules → Belongs rules start
+    → IsComplete (plain_game rules) (Wins rules) start
+plain_game-is_complete rules start playable belongs =
+    complete-up_to_same rules (Same rules) start playable belongs (λ a b belongs_a belongs_b same. same)
+
+-- and up to equal keys
+pub play_of-is_complete : (rules : RuleParts) (start : Board) → IsPlayable rules → Belongs rules start
+    → IsComplete (game_of (play_of rules) (pointwise nat_eq)) (Wins rules) start
+play_of-is_complete rules start playable belongs =
+    let game = game_of (play_of rules) (pointwise nat_eq) in
+    complete-up_to_same rules game.Same start playable belongs
+    (λ a b belongs_a belongs_b. (keys-compared rules a b playable belongs_a belongs_b).0)

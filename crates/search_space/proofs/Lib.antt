@@ -1,10 +1,7 @@
-pub mod Reading
-pub mod KeyLength
-pub mod KeysApart
-pub mod Equality
 pub mod Whole
 pub mod WellBoards
 pub mod Returning
 pub mod Reached
+pub mod Alike
 pub mod Complete
 pub mod Agreeing

@@ -1,4 +1,3 @@
-pub mod Keys
-pub mod Reading
 pub mod Well
+pub mod Game
 pub mod Plain

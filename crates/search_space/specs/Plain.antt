@@ -6,17 +6,17 @@ use Rattle.game_rules.specs.Board.{Board}
 use Rattle.game_rules.specs.Play.{after}
 use Rattle.game_rules.specs.Order.{legal_moves}
 use Rattle.game_rules.specs.Winning.{is_won}
+use Rattle.same_boards.specs.Keys.{key_bytes}
 use Rattle.packed_state.specs.declared.Packed.{Packed}
 use Rattle.packed_state.specs.declared.Undo.{Undo}
 use Rattle.packed_state.specs.Packed.{board_of}
 use Rattle.packed_state.specs.Undoing.{before}
 use Rattle.dfs_core.specs.Play.{Play}
-use Rattle.search_space.specs.Keys.{key_of}
 use Rattle.search_space.specs.Well.{is_well}
 
 -- every legal move in the order of moves, the board after it, the won boards, and the key of each board
 abbrev pub play_of : RuleParts → Play Board Move (List ℕ)
-play_of rules = record { steps = legal_moves rules; after = after rules; won = is_won rules; key = key_of }
+play_of rules = record { steps = legal_moves rules; after = after rules; won = is_won rules; key = key_bytes rules }
 
 -- the rules that a space plays by, and the packed board on which it stands
 pub record Standing : Type 0 where

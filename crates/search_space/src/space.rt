@@ -8,11 +8,11 @@ ghost use Rattle.dfs_core.specs.Play.{game_of};
 ghost use Rattle.std.specs.Cmp.Lexicographic.{pointwise};
 ghost use Rattle.search_space.specs.Plain.{play_of, before_of};
 
-use crate::BoardKey;
 use dfs_core::Space;
 use game_model::{Board, Rules};
 use game_rules::Move;
 use packed_state::{Packed, Undo};
+use pile_symmetry::{Key, key_of};
 use std::alloc::Global;
 use std::marker::Model;
 use transposition::NoMemory;
@@ -45,6 +45,7 @@ impl<'a> PlainSpace<'a> {
         ensures stands { board_of result.packed ≡ start.now }
         ensures complete { IsComplete (game_of (play_of rules.now) (pointwise nat_eq)) (Wins rules.now) start.now }
     {
+        // This call brings that the rules are playable, which the space keeps.
         let _ = rules.parts();
         PlainSpace {
             rules,
@@ -54,7 +55,7 @@ impl<'a> PlainSpace<'a> {
 }
 
 impl<'a> Space for PlainSpace<'a> {
-    type Key = BoardKey;
+    type Key = Key;
 
     type Step = Move;
 
@@ -89,7 +90,7 @@ impl<'a> Space for PlainSpace<'a> {
         self.packed.is_won(self.rules)
     }
 
-    fn key(&self) -> BoardKey {
-        BoardKey::of(self.rules, &self.packed)
+    fn key(&self) -> Key {
+        key_of(self.rules, &self.packed)
     }
 }

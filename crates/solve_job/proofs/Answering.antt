@@ -1,4 +1,4 @@
--- The verdict, from what the search answered: a walk by equal keys is a walk by equal boards.
+-- The verdict, from what the search answered: a walk by equal keys is a walk up to the same boards.
 use Rattle.std.proofs.Common.{◌≡◌, ℕ, ◌+◌, ◌<◌, ◌≤◌, Bool, true, refl, sym, ◌∙◌, subst, ⊎_elim, List, [], ◌∷◌, ◌++◌, length, length-append, min, arith, Contains}
 use Rattle.std.proofs.lemmas.List.Elements.{Contains-push_cases}
 use Rattle.trails.specs.Trails.{end, IsTrail, IsClean}
@@ -8,7 +8,6 @@ use Rattle.trails.specs.Complete.{IsComplete}
 use Rattle.trails.specs.Order.{IsAlike}
 use Rattle.trails.proofs.Laws.{clean_in}
 use Rattle.trails.proofs.FirstEnds.{each_follows, longer_cover}
-use Rattle.dfs_core.specs.Play.{game_of}
 use Rattle.dfs_core.specs.Answer.{IsAnswer}
 use Rattle.dfs_core.specs.declared.trail.Found.{Found}
 use Rattle.dfs_core.specs.declared.trail.Found.TheVariants as found
@@ -18,81 +17,75 @@ use Rattle.game_rules.specs.declared.Move.{Move}
 use Rattle.game_rules.specs.Board.{Board}
 use Rattle.game_rules.specs.Play.{after}
 use Rattle.game_rules.specs.Order.{legal_moves}
-use Rattle.game_rules.specs.Winning.{is_won, Won, Wins}
-use Rattle.search_space.specs.Keys.{key_of}
-use Rattle.search_space.specs.Plain.{play_of}
-use Rattle.solve_job.specs.Verdicts.{plain_game, IsSearched, IsWinnable, IsUnwinnable, IsUndecided, IsSmall}
+use Rattle.game_rules.specs.Winning.{Won, Wins}
+use Rattle.same_boards.specs.Same.{Same}
+use Rattle.search_space.specs.Game.{plain_game}
+use Rattle.search_space.proofs.Alike.{plain_game-is_alike}
+use Rattle.search_space.proofs.Agreeing.{keyed_game}
+use Rattle.solve_job.specs.Verdicts.{IsSearched, IsWinnable, IsUnwinnable, IsUndecided, IsSmall}
 use Rattle.solve_job.proofs.Lines.{line_of_trail, not_winnable}
 
--- boards are the same as themselves alone
-alike : (rules : RuleParts) → IsAlike (plain_game rules)
-alike rules = record {
-  itself = λ s. refl;
-  back = λ s t e. sym e;
-  through = λ s t u e f. e ∙ f;
-}
-
-module _ (rules : RuleParts) (eq : List ℕ → List ℕ → Bool) (start : Board) (cache limit spent : ℕ)
-    (agree : Agree (legal_moves rules) (after rules) (λ b. is_won rules b ≡ true) (Won rules) (λ a b. eq (key_of a) (key_of b) ≡ true) (λ a b. a ≡ b) start)
+module _ (rules : RuleParts) (start : Board) (cache limit spent : ℕ)
+    (agree : Agree (legal_moves rules) (after rules) (Won rules) (Won rules) (keyed_game rules).Same (Same rules) start)
     (within : spent ≤ limit) where
-  module _ (walk : List (List Move)) (is_walk : IsWalk (game_of (play_of rules) eq) start walk) where
-    trail_in : (l : List Move) → Contains walk l → IsTrail (game_of (play_of rules) eq) start l
-    trail_in l c = (clean_in (game_of (play_of rules) eq) start walk is_walk l c).steps
+  module _ (walk : List (List Move)) (is_walk : IsWalk (keyed_game rules) start walk) where
+    trail_in : (l : List Move) → Contains walk l → IsTrail (keyed_game rules) start l
+    trail_in l c = (clean_in (keyed_game rules) start walk is_walk l c).steps
 
     plain_walk : IsWalk (plain_game rules) start walk
-    plain_walk = walk_there (legal_moves rules) (after rules) (λ b. is_won rules b ≡ true) (Won rules)
-        (λ a b. eq (key_of a) (key_of b) ≡ true) (λ a b. a ≡ b) start agree walk is_walk
+    plain_walk = walk_there (legal_moves rules) (after rules) (Won rules) (Won rules)
+        (keyed_game rules).Same (Same rules) start agree walk is_walk
 
-    searched : IsFresh (game_of (play_of rules) eq) cache start walk → 0 + length walk ≡ spent → IsSearched rules start cache limit spent walk
+    searched : IsFresh (keyed_game rules) cache start walk → 0 + length walk ≡ spent → IsSearched rules start cache limit spent walk
     searched fresh count = record {
       is_walk = plain_walk;
-      fresh = fresh_there (legal_moves rules) (after rules) (λ b. is_won rules b ≡ true) (Won rules)
-          (λ a b. eq (key_of a) (key_of b) ≡ true) (λ a b. a ≡ b) start agree cache walk trail_in fresh;
+      fresh = fresh_there (legal_moves rules) (after rules) (Won rules) (Won rules)
+          (keyed_game rules).Same (Same rules) start agree cache walk trail_in fresh;
       count = omega (arith, count);
       within = within;
     }
 
-    followed : (z : List Move) → Follows (game_of (play_of rules) eq) start walk z → Follows (plain_game rules) start walk z
-    followed z follows = next_there (legal_moves rules) (after rules) (λ b. is_won rules b ≡ true) (Won rules)
-        (λ a b. eq (key_of a) (key_of b) ≡ true) (λ a b. a ≡ b) start agree walk z is_walk follows
+    followed : (z : List Move) → Follows (keyed_game rules) start walk z → Follows (plain_game rules) start walk z
+    followed z follows = next_there (legal_moves rules) (after rules) (Won rules) (Won rules)
+        (keyed_game rules).Same (Same rules) start agree walk z is_walk follows
 
     -- a clean trail that follows the walk, and the two together fresh
-    module _ (z : List Move) (is_clean : IsClean (game_of (play_of rules) eq) start z) (follows : Follows (game_of (play_of rules) eq) start walk z)
-        (is_fresh : IsFresh (game_of (play_of rules) eq) cache start (walk ++ z ∷ [])) where
+    module _ (z : List Move) (is_clean : IsClean (keyed_game rules) start z) (follows : Follows (keyed_game rules) start walk z)
+        (is_fresh : IsFresh (keyed_game rules) cache start (walk ++ z ∷ [])) where
       clean_z : IsClean (plain_game rules) start z
-      clean_z = clean_there (legal_moves rules) (after rules) (λ b. is_won rules b ≡ true) (Won rules)
-          (λ a b. eq (key_of a) (key_of b) ≡ true) (λ a b. a ≡ b) start agree z is_clean
+      clean_z = clean_there (legal_moves rules) (after rules) (Won rules) (Won rules)
+          (keyed_game rules).Same (Same rules) start agree z is_clean
 
       fresh_z : IsFresh (plain_game rules) cache start (walk ++ z ∷ [])
-      fresh_z = fresh_there (legal_moves rules) (after rules) (λ b. is_won rules b ≡ true) (Won rules)
-          (λ a b. eq (key_of a) (key_of b) ≡ true) (λ a b. a ≡ b) start agree cache (walk ++ z ∷ [])
-          (λ l listed. ⊎_elim (λ old. trail_in l old) (λ new. subst (IsTrail (game_of (play_of rules) eq) start) new is_clean.steps)
+      fresh_z = fresh_there (legal_moves rules) (after rules) (Won rules) (Won rules)
+          (keyed_game rules).Same (Same rules) start agree cache (walk ++ z ∷ [])
+          (λ l listed. ⊎_elim (λ old. trail_in l old) (λ new. subst (IsTrail (keyed_game rules) start) new is_clean.steps)
           (Contains-push_cases walk z l listed)) is_fresh
 
       covers : (boards : List Board) → IsCover (plain_game rules) start boards → min (length walk) cache < length boards
       covers boards cover =
-          let le = longer_cover (plain_game rules) start (alike rules) cache (walk ++ z ∷ [])
+          let le = longer_cover (plain_game rules) start (plain_game-is_alike rules) cache (walk ++ z ∷ [])
           (each_follows (plain_game rules) start walk z plain_walk (followed z follows)) fresh_z boards
           (λ l listed. ⊎_elim (λ old. clean_in (plain_game rules) start walk plain_walk l old) (λ new. subst (IsClean (plain_game rules) start) new clean_z)
           (Contains-push_cases walk z l listed)) cover in
           omega (arith, le, length-append walk (z ∷ []))
 
-  pub winnable : (trail : List Move) → IsAnswer (game_of (play_of rules) eq) start cache 0 spent limit (found.Won trail)
+  pub winnable : (trail : List Move) → IsAnswer (keyed_game rules) start cache 0 spent limit (found.Won trail)
       → IsWinnable rules start cache limit trail spent
   winnable trail answer = record {
-    end = end (game_of (play_of rules) eq) start trail;
-    legal = line_of_trail rules (λ b. is_won rules b ≡ true) (λ a b. eq (key_of a) (key_of b) ≡ true) start trail answer.ends.1;
+    end = end (keyed_game rules) start trail;
+    legal = line_of_trail rules (Won rules) (keyed_game rules).Same start trail answer.ends.1;
     won = answer.ends.2;
     walk = answer.walk;
     searched = searched answer.walk answer.is_walk answer.fresh answer.count;
     follows = followed answer.walk answer.is_walk trail answer.ends.0;
   }
 
-  pub unwinnable : IsAnswer (game_of (play_of rules) eq) start cache 0 spent limit found.Exhausted → ((n : ℕ) → ¬ Wins rules n start)
+  pub unwinnable : IsAnswer (keyed_game rules) start cache 0 spent limit found.Exhausted → ((n : ℕ) → ¬ Wins rules n start)
       → IsUnwinnable rules start cache limit spent
   unwinnable answer never =
-      let closed : IsClosed (plain_game rules) start answer.walk = closed_there (legal_moves rules) (after rules) (λ b. is_won rules b ≡ true) (Won rules)
-      (λ a b. eq (key_of a) (key_of b) ≡ true) (λ a b. a ≡ b) start agree answer.walk answer.is_walk answer.ends in
+      let closed : IsClosed (plain_game rules) start answer.walk = closed_there (legal_moves rules) (after rules) (Won rules) (Won rules)
+      (keyed_game rules).Same (Same rules) start agree answer.walk answer.is_walk answer.ends in
       record {
         never = not_winnable rules start never;
         walk = answer.walk;
@@ -105,7 +98,7 @@ module _ (rules : RuleParts) (eq : List ℕ → List ℕ → Bool) (start : Boar
       some_node [] count closed = absurd (closed.not_empty refl)
       some_node (l ∷ walk) count closed = omega (arith, count)
 
-  pub undecided : IsAnswer (game_of (play_of rules) eq) start cache 0 spent limit found.SpentAll → IsUndecided rules start cache limit spent
+  pub undecided : IsAnswer (keyed_game rules) start cache 0 spent limit found.SpentAll → IsUndecided rules start cache limit spent
   undecided answer =
       let z : List Move = answer.ends.1 in
       record {
@@ -123,17 +116,17 @@ module _ (rules : RuleParts) (eq : List ℕ → List ℕ → Bool) (start : Boar
       }
 
 -- the search's answer about a space is one about the start
-pub answer_of : (rules rules' : RuleParts) (eq : List ℕ → List ℕ → Bool) (start start' : Board) (cache cache' before limit limit' nodes spent : ℕ) (answer answer' : Found Move)
+pub answer_of : (rules rules' : RuleParts) (start start' : Board) (cache cache' before limit limit' nodes spent : ℕ) (answer answer' : Found Move)
     → rules' ≡ rules → start' ≡ start → cache' ≡ cache → before ≡ 0 → nodes ≡ spent → limit' ≡ limit → answer' ≡ answer
-    → IsAnswer (game_of (play_of rules') eq) start' cache' before spent limit' answer' → IsAnswer (game_of (play_of rules) eq) start cache 0 nodes limit answer
-answer_of rules rules' eq start start' cache cache' before limit limit' nodes spent answer answer' e1 e2 e3 e4 e5 e6 e7 h =
-    subst (λ r. IsAnswer (game_of (play_of r) eq) start cache 0 nodes limit answer) e1
-    (subst (λ s. IsAnswer (game_of (play_of rules') eq) s cache 0 nodes limit answer) e2
-    (subst (λ c. IsAnswer (game_of (play_of rules') eq) start' c 0 nodes limit answer) e3
-    (subst (λ b. IsAnswer (game_of (play_of rules') eq) start' cache' b nodes limit answer) e4
-    (subst (λ n. IsAnswer (game_of (play_of rules') eq) start' cache' before n limit answer) (sym e5)
-    (subst (λ l. IsAnswer (game_of (play_of rules') eq) start' cache' before spent l answer) e6
-    (subst (λ a. IsAnswer (game_of (play_of rules') eq) start' cache' before spent limit' a) e7 h))))))
+    → IsAnswer (keyed_game rules') start' cache' before spent limit' answer' → IsAnswer (keyed_game rules) start cache 0 nodes limit answer
+answer_of rules rules' start start' cache cache' before limit limit' nodes spent answer answer' e1 e2 e3 e4 e5 e6 e7 h =
+    subst (λ r. IsAnswer (keyed_game r) start cache 0 nodes limit answer) e1
+    (subst (λ s. IsAnswer (keyed_game rules') s cache 0 nodes limit answer) e2
+    (subst (λ c. IsAnswer (keyed_game rules') start' c 0 nodes limit answer) e3
+    (subst (λ b. IsAnswer (keyed_game rules') start' cache' b nodes limit answer) e4
+    (subst (λ n. IsAnswer (keyed_game rules') start' cache' before n limit answer) (sym e5)
+    (subst (λ l. IsAnswer (keyed_game rules') start' cache' before spent l answer) e6
+    (subst (λ a. IsAnswer (keyed_game rules') start' cache' before spent limit' a) e7 h))))))
 
 -- where so few boards cover the game, there is a verdict
 pub not_small : (rules : RuleParts) (start : Board) (cache limit nodes : ℕ) → IsUndecided rules start cache limit nodes → ¬ IsSmall rules start (min limit cache)
@@ -144,11 +137,11 @@ not_small rules start cache limit nodes h small =
     omega (arith, longer, few, spent)
 
 -- where the search leaves no win in a complete space, the start does not win
-pub never_wins : (rules rules' : RuleParts) (eq : List ℕ → List ℕ → Bool) (start start' : Board) → rules' ≡ rules → start' ≡ start
-    → IsComplete (game_of (play_of rules) eq) (Wins rules) start
-    → (IsComplete (game_of (play_of rules') eq) (Wins rules') start' → (n : ℕ) → ¬ Wins rules' n start') → (n : ℕ) → ¬ Wins rules n start
-never_wins rules rules' eq start start' e1 e2 complete no_win n wins =
+pub never_wins : (rules rules' : RuleParts) (start start' : Board) → rules' ≡ rules → start' ≡ start
+    → IsComplete (keyed_game rules) (Wins rules) start
+    → (IsComplete (keyed_game rules') (Wins rules') start' → (n : ℕ) → ¬ Wins rules' n start') → (n : ℕ) → ¬ Wins rules n start
+never_wins rules rules' start start' e1 e2 complete no_win n wins =
     no_win
-    (subst (λ r. IsComplete (game_of (play_of r) eq) (Wins r) start') (sym e1) (subst (λ s. IsComplete (game_of (play_of rules) eq) (Wins rules) s) (sym e2) complete))
+    (subst (λ r. IsComplete (keyed_game r) (Wins r) start') (sym e1) (subst (λ s. IsComplete (keyed_game rules) (Wins rules) s) (sym e2) complete))
     n
     (subst (λ r. Wins r n start') (sym e1) (subst (λ s. Wins rules n s) (sym e2) wins))

@@ -1,24 +1,18 @@
--- What a verdict says of a start.
+-- What a verdict says of a start. Boards count up to the order of like places, as `plain_game` says.
 use Rattle.std.specs.Prelude.{◌≡◌, ℕ, ◌≤◌, ◌<◌, List, [], ◌∷◌, ◌++◌, length, min, ⊤}
-use Rattle.trails.specs.Game.{Game}
 use Rattle.trails.specs.Trails.{IsClean}
 use Rattle.trails.specs.Walks.{Follows, IsWalk, IsClosed}
 use Rattle.trails.specs.Fresh.{IsFresh, IsCover}
 use Rattle.game_rules.specs.declared.RuleParts.{RuleParts}
 use Rattle.game_rules.specs.declared.Move.{Move}
 use Rattle.game_rules.specs.Board.{Board}
-use Rattle.game_rules.specs.Play.{after}
-use Rattle.game_rules.specs.Order.{legal_moves}
 use Rattle.game_rules.specs.Winning.{Won, Line, Winnable}
+use Rattle.search_space.specs.Game.{plain_game}
 use Rattle.line_printer.specs.declared.verdict.Verdict.{Verdict}
 use Rattle.line_printer.specs.declared.verdict.Verdict.TheVariants as verdict
 
--- the game with every legal move, in which a board is the same as itself alone
-abbrev pub plain_game : RuleParts → Game Board Move
-plain_game rules = record { steps = legal_moves rules; after = after rules; Won = Won rules; Same = λ a b. a ≡ b }
-
 -- The boards that were expanded are the ends of a walk of so many trails, no more than the limit. The walk
--- comes to a board again only where at least `cache` others were touched since.
+-- comes to a board again, or to one that is the same, only if at least `cache` others were touched since.
 pub record IsSearched (rules : RuleParts) (start : Board) (cache limit nodes : ℕ) (walk : List (List Move)) : Type 0 where
   pub is_walk : IsWalk (plain_game rules) start walk
   pub fresh : IsFresh (plain_game rules) cache start walk
@@ -62,6 +56,12 @@ IsVerdict rules start cache limit (verdict.Unwinnable nodes narrow_nodes) =
     IsUnwinnable rules start cache limit nodes × (narrow_nodes ≡ 0)
 IsVerdict rules start cache limit (verdict.Undecided nodes narrow_nodes) =
     IsUndecided rules start cache limit nodes × (narrow_nodes ≡ 0)
+
+-- the nodes of a verdict
+abbrev pub nodes_of : Verdict → ℕ
+nodes_of (verdict.Winnable line nodes narrow_nodes) = nodes
+nodes_of (verdict.Unwinnable nodes narrow_nodes) = nodes
+nodes_of (verdict.Undecided nodes narrow_nodes) = nodes
 
 -- the verdict is winnable or unwinnable
 abbrev pub IsDecided : Verdict → Type 0

@@ -7,6 +7,7 @@
 //! Not promised: speed, that a line is short, and how many nodes are spent once the memo forgot a board.
 #![tactic(auto)]
 
+pub mod laws;
 #[cfg(test)]
 mod tests;
 
@@ -58,6 +59,7 @@ pub fn solve(
     // Where so few boards cover the game, the verdict is not undecided.
     ensures decides { IsSmall rules.now start.now (min limits.now.nodes limits.now.cache) → IfOk result IsDecided }
 {
+    // This call brings that the rules are playable.
     let _ = rules.parts();
     let mut space = PlainSpace::new(rules, start);
     let mut budget = Budget::new(limits.nodes);

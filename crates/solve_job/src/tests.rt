@@ -183,28 +183,41 @@ fn a_won_start_costs_no_node(rt: HostRuntime) -> Result<(), Fail> {
 }
 
 #[test]
-fn a_pile_goes_to_a_space_and_back_no_more(rt: HostRuntime) -> Result<(), Fail> {
+fn two_spaces_are_one(rt: HostRuntime) -> Result<(), Fail> {
     let rules = Rules::new(plain(4, 3))?;
     let piles: [&[u8]; 1] = [b"1C2C3C4C"];
     let start = board(rt.alloc(), &rules, &piles, &[0, 4, 4, 4], b"")?;
-    let known = b"unwinnable\nnodes 5\nnarrow 0\n".as_slice();
-    for cache in [2, 10, 100_000] {
-        assert!(rt; prints(rt.alloc(), &rules, &start, cache, 1_000_000, known)?);
+    let text = b"unwinnable\nnodes 3\nnarrow 0\n".as_slice();
+    for cache in [1, 2, 100_000] {
+        assert!(rt; prints(rt.alloc(), &rules, &start, cache, 1_000_000, text)?);
     }
-    let forgotten = b"unwinnable\nnodes 9\nnarrow 0\n".as_slice();
-    assert!(rt; prints(rt.alloc(), &rules, &start, 1, 1_000_000, forgotten)?);
     Ok(())
 }
 
 #[test]
-fn a_king_between_two_spaces_is_two_boards(rt: HostRuntime) -> Result<(), Fail> {
+fn a_king_between_two_spaces_is_one_board(rt: HostRuntime) -> Result<(), Fail> {
     let mut parts = plain(3, 3);
     parts.spaces = Spaces::King;
     let rules = Rules::new(parts)?;
     let piles: [&[u8]; 2] = [b"1C2C", b"3C"];
     let start = board(rt.alloc(), &rules, &piles, &[0, 3, 3, 3], b"")?;
-    let text = b"unwinnable\nnodes 2\nnarrow 0\n".as_slice();
+    let text = b"unwinnable\nnodes 1\nnarrow 0\n".as_slice();
     assert!(rt; prints(rt.alloc(), &rules, &start, 100_000, 1_000_000, text)?);
+    Ok(())
+}
+
+#[test]
+fn a_small_cache_costs_nodes(rt: HostRuntime) -> Result<(), Fail> {
+    let mut parts = plain(4, 2);
+    parts.spaces = Spaces::NoFill;
+    parts.cells = 2;
+    let rules = Rules::new(parts)?;
+    let piles: [&[u8]; 2] = [b"1C2C3C4C", b"1D2D3D4D"];
+    let start = board(rt.alloc(), &rules, &piles, &[0, 0, 4, 4], b"")?;
+    let known = b"unwinnable\nnodes 6\nnarrow 0\n".as_slice();
+    assert!(rt; prints(rt.alloc(), &rules, &start, 100_000, 1_000_000, known)?);
+    let forgotten = b"unwinnable\nnodes 13\nnarrow 0\n".as_slice();
+    assert!(rt; prints(rt.alloc(), &rules, &start, 1, 1_000_000, forgotten)?);
     Ok(())
 }
 

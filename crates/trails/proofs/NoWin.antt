@@ -1,33 +1,24 @@
 -- A closed walk of a complete game holds no win.
-use Rattle.std.proofs.Common.{◌≡◌, ◌≢◌, ℕ, zero, suc, refl, sym, subst, List, [], ◌∷◌, ◌++◌, arith, Contains, All}
-use Rattle.std.proofs.lemmas.List.Elements.{All-head, All-tail}
+use Rattle.std.proofs.Common.{◌≡◌, ◌≢◌, ℕ, zero, suc, refl, sym, subst, List, [], ◌∷◌, ◌++◌, arith, Contains}
 use Rattle.trails.specs.Game.{Game}
-use Rattle.trails.specs.Trails.{end, states, IsClean}
+use Rattle.trails.specs.Trails.{end}
 use Rattle.trails.specs.Walks.{IsWalk, IsClosed}
 use Rattle.trails.specs.Complete.{IsComplete}
-use Rattle.trails.proofs.Lists.{contains_split}
-use Rattle.trails.proofs.TrailLaws.{end-push, IsTrail-push}
+use Rattle.trails.proofs.TrailLaws.{end-push, IsTrail-push, at_end}
+use Rattle.trails.proofs.Laws.{clean_in}
 
 module _ {State Step : Type 0} (game : Game State Step) where
-  -- what holds of each state of a trail holds of its end
-  at_end : (P : State → Type 0) (s : State) (ts : List Step) → All P (states game s ts) → P (end game s ts)
-  at_end P s [] h = All-head P s [] h
-  at_end P s (t ∷ ts) h = at_end P (game.after s t) ts (All-tail P s (states game (game.after s t) ts) h)
-
-  pub clean_in : (start : State) (walk : List (List Step)) (l : List Step) → IsWalk game start walk → Contains walk l → IsClean game start l
-  clean_in start walk l is_walk c = let s = contains_split walk l c in (is_walk s.0 s.1 l s.2).0
-
   module _ (Wins : ℕ → State → Type 0) (start : State) (walk : List (List Step)) (complete : IsComplete game Wins start)
       (is_walk : IsWalk game start walk) (closed : IsClosed game start walk) where
     none_at : (n : ℕ) (l : List Step) → Contains walk l → ¬ Wins n (end game start l)
     none_at zero l c wins =
-        let clean = clean_in start walk l is_walk c in
-        at_end (λ s. ¬ game.Won s) start l clean.not_won (complete.none (end game start l) (l, clean.steps, refl) wins)
+        let clean = clean_in game start walk is_walk l c in
+        at_end game (λ s. ¬ game.Won s) start l clean.not_won (complete.none (end game start l) (l, clean.steps, refl) wins)
     none_at (suc n) l c wins =
-        let clean = clean_in start walk l is_walk c in
-        let near = complete.nearer n (end game start l) (l, clean.steps, refl) (at_end (λ s. ¬ game.Won s) start l clean.not_won) wins in
+        let clean = clean_in game start walk is_walk l c in
+        let near = complete.nearer n (end game start l) (l, clean.steps, refl) (at_end game (λ s. ¬ game.Won s) start l clean.not_won) wins in
         let settled = closed.each l near.0 c near.1 in
-        let other = clean_in start walk settled.trail is_walk settled.listed in
+        let other = clean_in game start walk is_walk settled.trail settled.listed in
         none_at n settled.trail settled.listed
         (complete.alike n (game.after (end game start l) near.0) (end game start settled.trail)
         (l ++ near.0 ∷ [], IsTrail-push game start l near.0 clean.steps near.1, end-push game start l near.0)

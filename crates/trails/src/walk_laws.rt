@@ -6,7 +6,7 @@ ghost use Rattle.trails.specs.Trails.{IsPrefix, IsClean};
 ghost use Rattle.trails.specs.Walks.{Follows, IsWalk, IsClosed};
 ghost use Rattle.trails.specs.Fresh.{IsFresh, IsCover};
 ghost use Rattle.trails.specs.Complete.{IsComplete};
-ghost use Rattle.trails.specs.Order.{HasPlainSteps, HasPlainEnds, IsOpen, IsAlike};
+ghost use Rattle.trails.specs.Order.{HasPlainSteps, HasPlainEnds, IsOpen, IsAlike, IsEnded};
 
 /// What has a game, as the laws see it. No code plays it.
 pub trait HasGame {
@@ -92,6 +92,23 @@ pub fn a_fresh_walk_is_fixed<G: HasGame>(of: &G)
         → IsFresh (G.game of.now) fresh start walk
         → IsFresh (G.game of.now) fresh start other
         → length walk ≡ length other → length walk ≤ fresh + 1 → walk ≡ other }
+{}
+
+/// Two walks within one limit that come to an end are one walk, if each is fresh up to a number that it is no longer
+/// than. So no memo changes what a search does that forgets nothing.
+pub fn ended_walks_are_one<G: HasGame>(of: &G)
+    ensures { (start : G.State) (walk other : List (List G.Step)) (fresh fresh' limit : ℕ)
+        → HasPlainSteps (G.game of.now) start
+        → IsAlike (G.game of.now)
+        → IsWalk (G.game of.now) start walk
+        → IsWalk (G.game of.now) start other
+        → IsFresh (G.game of.now) fresh start walk
+        → IsFresh (G.game of.now) fresh' start other
+        → length walk ≤ fresh → length other ≤ fresh'
+        → length walk ≤ limit → length other ≤ limit
+        → IsEnded (G.game of.now) start limit walk
+        → IsEnded (G.game of.now) start limit other
+        → walk ≡ other }
 {}
 
 /// Where a clean trail follows a walk, and the two together are fresh up to a number, every list of states that

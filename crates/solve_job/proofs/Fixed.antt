@@ -1,0 +1,158 @@
+-- What follows from verdicts alone: where nothing is forgotten, there is one.
+use Rattle.std.proofs.Common.{◌≡◌, ℕ, ◌≤◌, inl, inr, ap, sym, ◌∙◌, subst, List, [], ◌∷◌, ◌++◌, length, arith}
+use Rattle.trails.specs.Trails.{end}
+use Rattle.trails.specs.Walks.{Follows, IsWalk, IsClosed}
+use Rattle.trails.specs.Fresh.{IsFresh}
+use Rattle.trails.specs.Order.{HasPlainSteps, IsOpen, IsEnded}
+use Rattle.trails.proofs.TrailLaws.{at_end}
+use Rattle.trails.proofs.Laws.{at_most_one, none_after_closed}
+use Rattle.trails.proofs.EndedWalks.{open_after, one_walk}
+use Rattle.game_rules.specs.declared.RuleParts.{RuleParts}
+use Rattle.game_rules.specs.declared.Move.{Move}
+use Rattle.game_rules.specs.Board.{Board}
+use Rattle.game_rules.specs.Play.{after}
+use Rattle.game_rules.specs.Winning.{Won, Line, Winnable}
+use Rattle.game_rules.proofs.MovesInOrder.{legal_moves-once}
+use Rattle.line_printer.specs.declared.verdict.Verdict.{Verdict}
+use Rattle.line_printer.specs.declared.verdict.Verdict.TheVariants as verdict
+use Rattle.search_space.specs.Game.{plain_game}
+use Rattle.search_space.proofs.Alike.{plain_game-is_alike}
+use Rattle.solve_job.specs.Verdicts.{IsVerdict, nodes_of}
+
+-- where the start is not winnable, no line wins
+pub no_line_wins : (rules : RuleParts) (start : Board) (moves : List Move) (last : Board) → ¬ Winnable rules start
+    → Line rules start moves last → ¬ Won rules last
+no_line_wins rules start moves last never line won =
+    never (length moves, record { moves = moves; end = last; short = omega arith; line = line; won = won })
+
+-- the last board of a line is the end of the trail
+line_ends : (rules : RuleParts) (board last : Board) (moves : List Move) → Line rules board moves last → end (plain_game rules) board moves ≡ last
+line_ends rules board last [] line = sym line
+line_ends rules board last (move ∷ moves) line = line_ends rules (after rules board move) last moves line.1
+
+-- no legal move stands twice
+plain_steps : (rules : RuleParts) (start : Board) → HasPlainSteps (plain_game rules) start
+plain_steps rules start = λ p is_trail. legal_moves-once rules (end (plain_game rules) start p)
+
+-- how a verdict ends its walk: a trail with a won end follows, or the walk is closed, or a trail to a new board
+-- follows that is not won
+Ends : (rules : RuleParts) → Board → ℕ → List (List Move) → Verdict → Type 0
+Ends rules start limit walk (verdict.Winnable line nodes narrow_nodes) =
+    Follows (plain_game rules) start walk line × Won rules (end (plain_game rules) start line)
+Ends rules start limit walk (verdict.Unwinnable nodes narrow_nodes) = IsClosed (plain_game rules) start walk
+Ends rules start limit walk (verdict.Undecided nodes narrow_nodes) =
+    (length walk ≡ limit) × (z : List Move) × Follows (plain_game rules) start walk z × IsOpen (plain_game rules) start walk z
+    × (¬ Won rules (end (plain_game rules) start z))
+
+narrow_of : Verdict → ℕ
+narrow_of (verdict.Winnable line nodes narrow_nodes) = narrow_nodes
+narrow_of (verdict.Unwinnable nodes narrow_nodes) = narrow_nodes
+narrow_of (verdict.Undecided nodes narrow_nodes) = narrow_nodes
+
+-- what a verdict rests on
+record Rests (rules : RuleParts) (start : Board) (cache limit : ℕ) (v : Verdict) : Type 0 where
+  walk : List (List Move)
+  is_walk : IsWalk (plain_game rules) start walk
+  fresh : IsFresh (plain_game rules) cache start walk
+  count : length walk ≡ nodes_of v
+  within : length walk ≤ limit
+  ends : Ends rules start limit walk v
+  no_narrow : narrow_of v ≡ 0
+
+rests_on : (rules : RuleParts) (start : Board) (cache limit : ℕ) (v : Verdict) → IsVerdict rules start cache limit v → nodes_of v ≤ cache
+    → Rests rules start cache limit v
+rests_on rules start cache limit (verdict.Winnable line nodes narrow_nodes) is few =
+    let h = is.0 in
+    record {
+      walk = h.walk;
+      is_walk = h.searched.is_walk;
+      fresh = h.searched.fresh;
+      count = h.searched.count;
+      within = omega (arith, h.searched.count, h.searched.within);
+      ends = (h.follows, subst (Won rules) (sym (line_ends rules start h.end line h.legal)) h.won);
+      no_narrow = is.1;
+    }
+rests_on rules start cache limit (verdict.Unwinnable nodes narrow_nodes) is few =
+    let h = is.0 in
+    record {
+      walk = h.walk;
+      is_walk = h.searched.is_walk;
+      fresh = h.searched.fresh;
+      count = h.searched.count;
+      within = omega (arith, h.searched.count, h.searched.within);
+      ends = h.closed;
+      no_narrow = is.1;
+    }
+rests_on rules start cache limit (verdict.Undecided nodes narrow_nodes) is few =
+    let h = is.0 in
+    let short : length h.walk ≤ cache = omega (arith, h.searched.count, few) in
+    record {
+      walk = h.walk;
+      is_walk = h.searched.is_walk;
+      fresh = h.searched.fresh;
+      count = h.searched.count;
+      within = omega (arith, h.searched.count, h.searched.within);
+      ends = (
+        h.searched.count ∙ h.spent,
+        h.further,
+        h.follows,
+        open_after (plain_game rules) start (plain_game-is_alike rules) cache h.walk h.further h.searched.is_walk h.follows h.fresh short,
+        at_end (plain_game rules) (λ s. ¬ Won rules s) start h.further h.clean.not_won,
+      );
+      no_narrow = is.1;
+    }
+
+ended : (rules : RuleParts) (start : Board) (limit : ℕ) (walk : List (List Move)) (v : Verdict) → Ends rules start limit walk v
+    → IsEnded (plain_game rules) start limit walk
+ended rules start limit walk (verdict.Winnable line nodes narrow_nodes) ends = inl (line, ends.0, ends.1)
+ended rules start limit walk (verdict.Unwinnable nodes narrow_nodes) ends = inr (inl ends)
+ended rules start limit walk (verdict.Undecided nodes narrow_nodes) ends = inr (inr ends.0)
+
+-- one walk ends in one way
+module _ (rules : RuleParts) (start : Board) (limit : ℕ) (walk : List (List Move)) (is_walk : IsWalk (plain_game rules) start walk) where
+  no_further : (z : List Move) → IsClosed (plain_game rules) start walk → Follows (plain_game rules) start walk z
+      → IsOpen (plain_game rules) start walk z → ⊥
+  no_further z closed follows opens =
+      none_after_closed (plain_game rules) start walk is_walk (plain_steps rules start) closed z follows opens
+
+  no_win : (line z : List Move) → Follows (plain_game rules) start walk line → Won rules (end (plain_game rules) start line)
+      → Follows (plain_game rules) start walk z → IsOpen (plain_game rules) start walk z → ¬ Won rules (end (plain_game rules) start z) → ⊥
+  no_win line z follows won follows' opens not_won =
+      let same : line ≡ z = at_most_one (plain_game rules) start walk is_walk (plain_steps rules start) line z follows follows' (inl won) opens in
+      not_won (subst (λ l. Won rules (end (plain_game rules) start l)) same won)
+
+  one_ending : (v w : Verdict) → Ends rules start limit walk v → Ends rules start limit walk w → nodes_of v ≡ nodes_of w → narrow_of v ≡ narrow_of w → v ≡ w
+  one_ending (verdict.Winnable line nodes narrow_nodes) (verdict.Winnable line' nodes' narrow_nodes') e f same narrow =
+      let one : line ≡ line' = at_most_one (plain_game rules) start walk is_walk (plain_steps rules start) line line' e.0 f.0 (inl e.1) (inl f.1) in
+      ap (λ l. verdict.Winnable l nodes narrow_nodes) one
+      ∙ (ap (λ n. verdict.Winnable line' n narrow_nodes) same ∙ ap (λ k. verdict.Winnable line' nodes' k) narrow)
+  one_ending (verdict.Winnable line nodes narrow_nodes) (verdict.Unwinnable nodes' narrow_nodes') e f same narrow =
+      absurd (no_further line f e.0 (inl e.1))
+  one_ending (verdict.Winnable line nodes narrow_nodes) (verdict.Undecided nodes' narrow_nodes') e f same narrow =
+      absurd (no_win line f.1 e.0 e.1 f.2 f.3 f.4)
+  one_ending (verdict.Unwinnable nodes narrow_nodes) (verdict.Winnable line' nodes' narrow_nodes') e f same narrow =
+      absurd (no_further line' e f.0 (inl f.1))
+  one_ending (verdict.Unwinnable nodes narrow_nodes) (verdict.Unwinnable nodes' narrow_nodes') e f same narrow =
+      ap (λ n. verdict.Unwinnable n narrow_nodes) same ∙ ap (λ k. verdict.Unwinnable nodes' k) narrow
+  one_ending (verdict.Unwinnable nodes narrow_nodes) (verdict.Undecided nodes' narrow_nodes') e f same narrow =
+      absurd (no_further f.1 e f.2 f.3)
+  one_ending (verdict.Undecided nodes narrow_nodes) (verdict.Winnable line' nodes' narrow_nodes') e f same narrow =
+      absurd (no_win line' e.1 f.0 f.1 e.2 e.3 e.4)
+  one_ending (verdict.Undecided nodes narrow_nodes) (verdict.Unwinnable nodes' narrow_nodes') e f same narrow =
+      absurd (no_further e.1 f e.2 e.3)
+  one_ending (verdict.Undecided nodes narrow_nodes) (verdict.Undecided nodes' narrow_nodes') e f same narrow =
+      ap (λ n. verdict.Undecided n narrow_nodes) same ∙ ap (λ k. verdict.Undecided nodes' k) narrow
+
+-- two verdicts of no more nodes than their caches have room for are one
+pub one_verdict : (rules : RuleParts) (start : Board) (cache cache' limit : ℕ) (v w : Verdict)
+    → IsVerdict rules start cache limit v → IsVerdict rules start cache' limit w → nodes_of v ≤ cache → nodes_of w ≤ cache' → v ≡ w
+one_verdict rules start cache cache' limit v w is_v is_w few_v few_w =
+    let a = rests_on rules start cache limit v is_v few_v in
+    let b = rests_on rules start cache' limit w is_w few_w in
+    let short : length a.walk ≤ cache = omega (arith, a.count, few_v) in
+    let short' : length b.walk ≤ cache' = omega (arith, b.count, few_w) in
+    let walks : a.walk ≡ b.walk = one_walk (plain_game rules) start (plain_game-is_alike rules) (plain_steps rules start) limit cache cache' a.walk b.walk
+    a.is_walk b.is_walk a.fresh b.fresh short short' a.within b.within
+    (ended rules start limit a.walk v a.ends) (ended rules start limit b.walk w b.ends) in
+    let nodes : nodes_of v ≡ nodes_of w = sym a.count ∙ (ap length walks ∙ b.count) in
+    one_ending rules start limit b.walk b.is_walk v w (subst (λ walk. Ends rules start limit walk v) walks a.ends) b.ends nodes (a.no_narrow ∙ sym b.no_narrow)
