@@ -43,13 +43,7 @@ fn is_fitted(to: Place, set: CardSet, offer: Offer) -> bool
 
 /// Whether what is offered may go to a place: the set has the cards that the place accepts, and
 /// where there is none the place is asked.
-fn may_go<T: Table>(
-    rules: &Rules,
-    table: &T,
-    to: Place,
-    set: Option<CardSet>,
-    offer: Offer,
-) -> bool
+fn may_go<T: Table>(rules: &Rules, table: &T, to: Place, set: Option<CardSet>, offer: Offer) -> bool
     requires here { IsTrue (has_place rules.now (T.board table.now) to) }
     requires fits { IfSome set (λ accepted. Fits rules.now (T.board table.now) to accepted) }
     requires given { IsGiven rules.now (T.board table.now) offer }

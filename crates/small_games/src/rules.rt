@@ -123,44 +123,73 @@ fn number(word: &str) -> Option<u8> {
     }
 }
 
-/// Sets the number of a name.
-fn set_number(parts: &mut RuleParts, name: &str, number: u8) {
-    if name == "decks" {
-        parts.decks = number;
-    } else if name == "ranks" {
-        parts.max_rank = number;
-    } else if name == "piles" {
-        parts.piles = number;
-    } else if name == "cells" {
-        parts.cells = number;
-    } else if name == "reserve" {
-        parts.reserve = number;
-    } else if name == "stock" {
-        parts.stock = number;
-    } else if name == "draw" {
-        parts.draw = number;
-    } else if name == "redeals" {
-        parts.redeals = Redeals::Times(number);
-    } else if name == "base" {
-        parts.goal = foundations(number);
+/// A number of the rules.
+#[derive(Clone, Copy)]
+enum Counted {
+    Decks,
+    Ranks,
+    Piles,
+    Cells,
+    Reserve,
+    Stock,
+    Draw,
+    Redeals,
+    Base,
+}
+
+/// The number that a word names.
+fn counted_by(word: &str) -> Option<Counted> {
+    if word == "decks" {
+        Some(Counted::Decks)
+    } else if word == "ranks" {
+        Some(Counted::Ranks)
+    } else if word == "piles" {
+        Some(Counted::Piles)
+    } else if word == "cells" {
+        Some(Counted::Cells)
+    } else if word == "reserve" {
+        Some(Counted::Reserve)
+    } else if word == "stock" {
+        Some(Counted::Stock)
+    } else if word == "draw" {
+        Some(Counted::Draw)
+    } else if word == "redeals" {
+        Some(Counted::Redeals)
+    } else if word == "base" {
+        Some(Counted::Base)
+    } else {
+        None
+    }
+}
+
+fn set_number(parts: &mut RuleParts, counted: Counted, number: u8) {
+    match counted {
+        Counted::Decks => parts.decks = number,
+        Counted::Ranks => parts.max_rank = number,
+        Counted::Piles => parts.piles = number,
+        Counted::Cells => parts.cells = number,
+        Counted::Reserve => parts.reserve = number,
+        Counted::Stock => parts.stock = number,
+        Counted::Draw => parts.draw = number,
+        Counted::Redeals => parts.redeals = Redeals::Times(number),
+        Counted::Base => parts.goal = foundations(number),
     }
 }
 
 /// The rules of a text: words, and names with a number after each, as `any-suit piles 4 cells 1`.
 /// What is not named is as in a plain game: three ranks, three piles that are not built on, two
 /// cells, a reserve of two, foundations from the ace, and a stock that deals one card to the waste.
+/// Fails as `Rules::new` does.
 pub fn rules_of(text: &str) -> Result<Rules, Conflict> {
     let mut parts = plain_parts();
-    let mut name = "";
+    let mut named = None;
     for word in text.split_whitespace() {
-        match number(word) {
-            Some(number) => set_number(&mut parts, name, number),
-            None => {
-                set_piles(&mut parts, word);
-                set_goal(&mut parts, word);
-            }
+        if let (Some(counted), Some(number)) = (named, number(word)) {
+            set_number(&mut parts, counted, number);
         }
-        name = word;
+        set_piles(&mut parts, word);
+        set_goal(&mut parts, word);
+        named = counted_by(word);
     }
     Rules::new(parts)
 }

@@ -1,16 +1,7 @@
-use Rattle.std.proofs.Common.{◌≡◌, sym, ◌∙◌, ap}
-use Rattle.game_rules.specs.Taking.{taken}
 use Rattle.game_rules.proofs.Limits.{limits_of}
 use Rattle.game_rules.proofs.LegalFacts.{carry_needs}
-use Rattle.packed_state.proofs.Seams.{slice-listed}
 use Rattle.packed_state.proofs.PackedBoard.carry.Goals as goal
 
 pub taken-cards-requires-clause-enough : goal.taken-cards-requires-clause-enough
 taken-cards-requires-clause-enough c =
     (carry_needs c.args.rules.now c.args.self.now c.args.from c.args.to c.args.count (limits_of c.args.rules.now c.parts.ensures.playable) c.ranges.count.fits c.requires.legal).enough
-
-pub carry_cards-requires-clause-taken : goal.carry_cards-requires-clause-taken
-carry_cards-requires-clause-taken c =
-    slice-listed c.one_taken-card.result c.as_slice.result.now c.as_slice.ensures
-    ∙ c.one_taken-card.ensures
-    ∙ ap (taken c.args.rules.now c.args.self.now c.args.from) (sym c.if-count-1.true)

@@ -1,2 +1,0 @@
-use Rattle.std.proofs.Common.{◌≡◌}
-use Rattle.packed_state.proofs.PackedBoard.uncarry.Goals as goal
