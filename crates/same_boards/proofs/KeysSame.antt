@@ -37,7 +37,7 @@ gaps [] = []
 gaps (None ∷ entries) = None ∷ gaps entries
 gaps (Some card ∷ entries) = gaps entries
 
-pub some_card : Card → Option Card
+unfoldable pub some_card : Card → Option Card
 some_card card = Some card
 
 entries-parts : (entries : List (Option Card)) → IsPermutation entries (map some_card (cards_in entries) ++ gaps entries)
