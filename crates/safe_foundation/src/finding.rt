@@ -1,5 +1,5 @@
 //! The first place that gives a card.
-ghost use Rattle.std.specs.Prelude.{◌≡◌, ◌<◌, ◌≤◌, length, IsTrue};
+ghost use Rattle.std.specs.Prelude.{◌≡◌, ◌<◌, ◌≤◌, length, IsTrue, if◌then◌else◌};
 ghost use Rattle.game_rules.specs.declared.Place.TheVariants.{Tableau, Cell, Reserve};
 ghost use Rattle.game_rules.specs.Belonging.{Belongs, holds};
 ghost use Rattle.safe_foundation.specs.Giving.{gives, IsLeast, IsFirstGiving};
