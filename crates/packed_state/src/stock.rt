@@ -80,18 +80,40 @@ impl PackedBoard {
         border
     }
 
+    /// Cuts the queue of stock and waste at a border within the stock: cards of the stock go to the
+    /// waste.
+    fn cut_stock(&mut self, border: Border)
+        requires fits { IsTrue (can_be_cut border self.old) }
+        requires below { border.stock ≤ length self.old.stock }
+        ensures { self.new ≡ cut_at border self.old }
+    {
+        let count = self.stock().len() as u8 - border.stock;
+        let _ = self.deal_to_waste(count);
+        self.redeals_left = border.redeals_left;
+    }
+
+    /// Cuts the queue of stock and waste at a border within the waste: cards of the waste go back to
+    /// the stock.
+    fn cut_waste(&mut self, border: Border)
+        requires fits { IsTrue (can_be_cut border self.old) }
+        requires above { length self.old.stock ≤ border.stock }
+        ensures { self.new ≡ cut_at border self.old }
+    {
+        let count = border.stock - self.stock().len() as u8;
+        self.undeal(Target::ToWaste, count);
+        self.redeals_left = border.redeals_left;
+    }
+
     /// Cuts the queue of stock and waste at a border.
     fn cut(&mut self, border: Border)
         requires { IsTrue (can_be_cut border self.old) }
         ensures { self.new ≡ cut_at border self.old }
     {
-        let size = self.stock.len() as u8;
-        if border.stock < size {
-            let _ = self.deal_to_waste(size - border.stock);
+        if usize::from(border.stock) < self.stock().len() {
+            self.cut_stock(border);
         } else {
-            self.undeal(Target::ToWaste, border.stock - size);
+            self.cut_waste(border);
         }
-        self.redeals_left = border.redeals_left;
     }
 }
 
