@@ -1,5 +1,5 @@
 -- The loops over the entries of a part.
-use Rattle.std.proofs.Common.{◌≡◌, ℕ, List, [], ◌∷◌, ◌++◌, length, Ok, Err, refl, ap, append_assoc, append-nil, ◌∙◌, sym}
+use Rattle.std.proofs.Common.{◌≡◌, ℕ, List, [], ◌∷◌, ◌++◌, length, Ok, Err, refl, ap, append_assoc, append-nil, sym}
 use Rattle.std.specs.Prelude.{Result}
 use Rattle.serde_json.specs.Data.{Data, Items, no_items, item}
 use Rattle.json_tree.specs.Choice.{◌>>=◌}

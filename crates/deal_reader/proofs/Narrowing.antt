@@ -1,7 +1,7 @@
 -- The numbers of a file as bytes: the first fault of a position and its board stay the same.
-use Rattle.std.proofs.Common.{◌≡◌, ℕ, ◌+◌, ◌-◌, ◌<◌, ◌≤◌, zero, suc, min, Bool, true, false, ◌&&◌, ◌||◌, not, List, [], ◌∷◌, ◌++◌, map, length, replicate, get_or, refl, ap, ap₂, sym, ◌∙◌, arith, inl, inr}
-use Rattle.std.specs.Prelude.{cond, ◌⊎◌, Ok, Err, Option, Some, None, IsTrue, ◌==◌, nat_lt, nat_le, slice_index_or, if◌then◌else◌}
-use Rattle.std.specs.List.{list_any, list_all, sum_by, find, range_with_len}
+use Rattle.std.proofs.Common.{◌≡◌, ℕ, ◌-◌, ◌≤◌, zero, suc, Bool, true, false, ◌&&◌, ◌||◌, not, List, [], ◌∷◌, map, length, get_or, refl, ap, ap₂, sym, ◌∙◌, arith, inl, inr}
+use Rattle.std.specs.Prelude.{cond, ◌⊎◌, Ok, Err, Option, Some, None, IsTrue, nat_lt, nat_le, slice_index_or, if◌then◌else◌}
+use Rattle.std.specs.List.{list_any, list_all, find, range_with_len}
 use Rattle.std.proofs.lemmas.List.{length-map, get_or_past}
 use Rattle.std.proofs.lemmas.List.Sums.{sum_by-cons}
 use Rattle.std.proofs.lemmas.Bool.{ltb-false, leb-true, cases_lt}
@@ -21,7 +21,7 @@ use Rattle.game_rules.specs.declared.BoardFault.TheVariants.{PlaceFull}
 use Rattle.game_rules.specs.Conflicts.{IsPlayable, HasLimits, are_redeals_within}
 use Rattle.game_rules.specs.Board.{Board, Pile, empty_pile}
 use Rattle.game_rules.specs.Belonging.{Belongs, most_redeals, foundation_count, copies_of, copies_in_piles, copies_at_home, copies_on, copies_due}
-use Rattle.game_rules.specs.Position.{cards_at, face_down_fits, face_down_fits_at, tableau_full, face_down_full, cells_full, reserve_full, stock_full, waste_full, redeals_full, foundations_full, hole_full, rows_full, first_full, filled, pile_of, board_of_parts, deck_size, is_missing, is_extra, first_card, card_fault, place_fault, fault_of}
+use Rattle.game_rules.specs.Position.{cards_at, face_down_fits, face_down_fits_at, tableau_full, face_down_full, cells_full, reserve_full, stock_full, waste_full, foundations_full, hole_full, rows_full, first_full, filled, pile_of, board_of_parts, deck_size, is_missing, is_extra, first_card, card_fault, place_fault, fault_of}
 use Rattle.game_rules.proofs.Limits.{both, numbers_within, limits_of}
 use Rattle.game_rules.proofs.PositionFacts.{NoneIsFull, none_is_full}
 use Rattle.game_rules.proofs.FewCards.{each_place-few}

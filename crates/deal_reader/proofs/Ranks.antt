@@ -1,9 +1,8 @@
 -- Each card of a board that belongs to rules has one of the thirteen ranks.
-use Rattle.std.proofs.Common.{◌≡◌, ℕ, ◌+◌, ◌*◌, ◌≤◌, ◌<◌, zero, suc, Bool, true, false, ◌&&◌, List, [], ◌∷◌, ◌++◌, map, length, take, drop, refl, ap, sym, ◌∙◌, arith}
+use Rattle.std.proofs.Common.{◌≡◌, ℕ, ◌*◌, ◌≤◌, Bool, true, false, ◌&&◌, List, [], ◌∷◌, ◌++◌, map, drop, refl, arith}
 use Rattle.std.specs.Prelude.{cond, Option, Some, None, IsTrue, IfSome, nat_le, not, ◌==◌, if◌then◌else◌}
-use Rattle.std.specs.Option.{option_to_list}
 use Rattle.std.specs.List.{All, flat_map, range_with_len}
-use Rattle.std.proofs.lemmas.List.Elements.{All-nil, All-cons, All-head, All-tail, All-take, All-drop, All-map}
+use Rattle.std.proofs.lemmas.List.Elements.{All-nil, All-cons, All-head, All-tail, All-take, All-drop}
 use Rattle.std.proofs.lemmas.Bool.{leb-true}
 use Rattle.card_piles.specs.declared.Card.{Card}
 use Rattle.card_piles.specs.Cards.{IsRank}
@@ -12,7 +11,7 @@ use Rattle.game_rules.specs.declared.BoardParts.{BoardParts}
 use Rattle.game_rules.specs.Rules.{is_sequence_goal}
 use Rattle.game_rules.specs.Conflicts.{HasLimits}
 use Rattle.game_rules.specs.Board.{Board, Pile}
-use Rattle.game_rules.specs.Belonging.{Belongs, same_card, copies_of, copies_on, copies_due}
+use Rattle.game_rules.specs.Belonging.{Belongs, same_card, copies_of, copies_due}
 use Rattle.game_rules.specs.Winning.{row_at}
 use Rattle.game_rules.specs.Position.{AreCards, AreEntries, parts_of, row_count}
 use Rattle.game_rules.proofs.Limits.{both}

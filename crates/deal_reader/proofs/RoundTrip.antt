@@ -1,17 +1,16 @@
 -- What is written for a board reads as this board.
-use Rattle.std.proofs.Common.{◌≡◌, ℕ, ◌+◌, ◌*◌, ◌-◌, ◌≤◌, ◌<◌, zero, suc, min, max, Bool, true, false, ◌&&◌, ◌||◌, not, List, [], ◌∷◌, ◌++◌, map, length, get_or, refl, ap, ap₂, sym, ◌∙◌, arith, length-append, IsUtf8, decimal, lit≤}
-use Rattle.std.specs.Prelude.{cond, Option, Some, None, Ok, Err, Result, IsTrue, IfSome, ◌==◌, nat_lt, nat_le, unwrap_or}
-use Rattle.std.specs.List.{All, list_any, list_all, flat_map, range_with_len}
+use Rattle.std.proofs.Common.{◌≡◌, ℕ, ◌≤◌, ◌<◌, suc, Bool, true, false, ◌&&◌, ◌||◌, not, List, [], ◌∷◌, map, length, get_or, refl, ap, ap₂, sym, ◌∙◌, arith, IsUtf8}
+use Rattle.std.specs.Prelude.{cond, Option, Some, None, Ok, Result, IsTrue, ◌==◌, nat_lt, unwrap_or}
+use Rattle.std.specs.List.{All, list_any, list_all, range_with_len}
 use Rattle.std.proofs.lemmas.List.Elements.{All-head, All-tail}
 use Rattle.std.proofs.lemmas.List.Sums.{AllPass-from_list_all}
 use Rattle.std.proofs.lemmas.List.FromFn.{length-range_with_len, get_or-range_with_len}
-use Rattle.std.proofs.lemmas.Bool.{leb-true, eqb-true, le-ltb}
-use Rattle.serde_json.specs.Data.{Data, Items, no_items, item, depth}
+use Rattle.std.proofs.lemmas.Bool.{eqb-true, le-ltb}
+use Rattle.serde_json.specs.Data.{Data, depth}
 use Rattle.serde_json.specs.View.{items_of}
 use Rattle.serde_json.specs.Read.{read, max_depth}
 use Rattle.serde_json.specs.Written.{has_float, compact_text}
-use Rattle.json_tree.specs.Choice.{◌>>=◌}
-use Rattle.json_tree.specs.Tree.{object_of, max_file_length}
+use Rattle.json_tree.specs.Tree.{max_file_length}
 use Rattle.json_tree.proofs.Reading.{tree_of-read, object_of-tree}
 use Rattle.card_piles.specs.declared.Card.{Card}
 use Rattle.card_piles.specs.declared.Suit.{Suit}
@@ -23,20 +22,19 @@ use Rattle.game_rules.specs.declared.BoardParts.{BoardParts}
 use Rattle.game_rules.specs.declared.BoardFault.{BoardFault}
 use Rattle.game_rules.specs.declared.BoardFault.TheVariants.{PlaceFull}
 use Rattle.game_rules.specs.declared.Face.{Face}
-use Rattle.game_rules.specs.declared.Face.TheVariants.{AllUp, TopUp}
 use Rattle.game_rules.specs.declared.Part.{Part}
 use Rattle.game_rules.specs.declared.Part.TheVariants as part
 use Rattle.game_rules.specs.Conflicts.{IsPlayable}
 use Rattle.game_rules.specs.Board.{Board, Pile, empty_pile}
 use Rattle.game_rules.specs.Belonging.{Belongs, lies_well}
-use Rattle.game_rules.specs.Position.{AreCards, AreEntries, parts_of, fault_of, tableau_full, board_of_parts}
+use Rattle.game_rules.specs.Position.{AreCards, AreEntries, parts_of, fault_of, tableau_full}
 use Rattle.game_rules.proofs.Limits.{both, limits_of}
 use Rattle.game_rules.proofs.FewCards.{each_place-few}
 use Rattle.game_rules.proofs.BelongingExactly.{board-of_its_parts, parts-have_no_fault}
 use Rattle.deal_reader.specs.declared.deal.DealParts.{DealParts}
 use Rattle.deal_reader.specs.declared.fault.DealFault.{DealFault}
 use Rattle.deal_reader.specs.Entries.{card_at, entry_at, number_at, place_after, entries_from, list_at, lists_from, or_not_a_card}
-use Rattle.deal_reader.specs.Position.{deal_of_tree, has_great_number, parts_of_deal, fault_of_deal, board_or_fault, position_of_deal, position_of_tree, position_of_file, position_of}
+use Rattle.deal_reader.specs.Position.{deal_of_tree, has_great_number, fault_of_deal, board_or_fault, position_of_deal, position_of_tree, position_of_file, position_of}
 use Rattle.deal_reader.specs.Spelling.{card_tree, entry_tree, number_tree, list_tree, parts_tree, position_text}
 use Rattle.deal_reader.proofs.Texts.{down-small, parts-no_float, parts-shallow, position_text-short}
 use Rattle.deal_reader.proofs.Ranks.{IsEntry, PartsHaveRanks, parts-have_ranks}

@@ -1,15 +1,15 @@
 -- The text of a board is short, and its tree has no float and nests little.
-use Rattle.std.proofs.Common.{◌≡◌, ℕ, ◌+◌, ◌*◌, ◌-◌, ◌≤◌, ◌<◌, zero, suc, max, Bool, true, false, ◌||◌, List, [], ◌∷◌, ◌++◌, map, length, get_or, take, drop, refl, ap, sym, ◌∙◌, arith, length-append, length-take, decimal}
+use Rattle.std.proofs.Common.{◌≡◌, ℕ, ◌+◌, ◌*◌, ◌-◌, ◌≤◌, Bool, true, false, ◌||◌, List, [], ◌∷◌, ◌++◌, map, length, get_or, drop, refl, arith, length-append, length-take}
 use Rattle.std.specs.Prelude.{cond, Option, Some, None, IsTrue, nat_lt, nat_le, codes}
-use Rattle.std.specs.List.{All, list_all, flat_map, range_with_len}
+use Rattle.std.specs.List.{All, range_with_len}
 use Rattle.std.proofs.lemmas.List.{length-map}
 use Rattle.std.proofs.lemmas.List.Elements.{All-head, All-tail, All-map, All-from_get_or}
 use Rattle.std.proofs.lemmas.List.FromFn.{length-map-range_with_len}
 use Rattle.std.proofs.lemmas.List.Sums.{AllPass-from_list_all}
-use Rattle.std.proofs.lemmas.Bool.{leb-true, ltb-false, eqb-true}
+use Rattle.std.proofs.lemmas.Bool.{leb-true, eqb-true}
 use Rattle.std.proofs.lemmas.Fmt.{length-decimal-le}
 use Rattle.json.specs.Print.{escape_byte, escape_letter, escape, quoted}
-use Rattle.serde_json.specs.Data.{Data, Items, no_items, item, Members, no_members, member, depth, items_depth, members_depth}
+use Rattle.serde_json.specs.Data.{Data, Members, no_members, member, depth}
 use Rattle.serde_json.specs.View.{items_of}
 use Rattle.serde_json.specs.Written.{has_float, items_have_float, comma_if, compact_text, items_text, members_text}
 use Rattle.card_piles.specs.declared.Card.{Card}
@@ -22,7 +22,7 @@ use Rattle.game_rules.specs.Rules.{is_foundation_goal, is_sequence_goal}
 use Rattle.game_rules.specs.Conflicts.{IsPlayable}
 use Rattle.game_rules.specs.Board.{Board, Pile, empty_pile}
 use Rattle.game_rules.specs.Winning.{row_at}
-use Rattle.game_rules.specs.Belonging.{Belongs, lies_well, foundation_count, most_redeals}
+use Rattle.game_rules.specs.Belonging.{Belongs, lies_well}
 use Rattle.game_rules.specs.Position.{parts_of, row_count}
 use Rattle.game_rules.proofs.Limits.{limits_of}
 use Rattle.game_rules.proofs.FewCards.{each_place-few}

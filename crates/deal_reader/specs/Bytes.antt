@@ -1,5 +1,5 @@
 -- The numbers of a file as the bytes that a board is made of. The reading of a file does not rest on this page.
-use Rattle.std.specs.Prelude.{ℕ, min, List, map}
+use Rattle.std.specs.Prelude.{ℕ, min, map}
 use Rattle.game_rules.specs.declared.BoardParts.{BoardParts}
 
 -- a number above 255 as 255

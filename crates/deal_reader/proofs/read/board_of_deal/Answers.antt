@@ -1,4 +1,4 @@
-use Rattle.std.proofs.Common.{◌≡◌, ◌∙◌, sym, ap, inl, inr, Err}
+use Rattle.std.proofs.Common.{◌∙◌, sym, ap, inl, inr, Err}
 use Rattle.game_rules.specs.Position.{board_of_parts, fault_of}
 use Rattle.deal_reader.specs.Position.{deal_fault}
 use Rattle.deal_reader.proofs.Narrowing.{position_of_deal-board, position_of_deal-fault}

@@ -1,4 +1,4 @@
-use Rattle.std.proofs.Common.{◌≡◌, take, map}
+use Rattle.std.proofs.Common.{◌≡◌, take}
 use Rattle.deal_reader.proofs.write.cells_of.Given as goal
 
 abbrev pub invariant-loop-i : goal.invariant-loop-i

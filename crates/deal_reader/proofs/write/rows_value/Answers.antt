@@ -1,4 +1,4 @@
-use Rattle.std.proofs.Common.{◌≡◌, ◌*◌, ◌∙◌, ap, take, drop, List}
+use Rattle.std.proofs.Common.{◌*◌, ◌∙◌, ap, take, drop, List}
 use Rattle.std.specs.Prelude.{Option}
 use Rattle.card_piles.specs.declared.Card.{Card}
 use Rattle.deal_reader.proofs.Rows.{rows-more}

@@ -1,4 +1,4 @@
-use Rattle.std.proofs.Common.{◌≡◌, take, map}
+use Rattle.std.proofs.Common.{◌≡◌, map}
 use Rattle.serde_json.specs.View.{view}
 use Rattle.std.specs.List.{range_with_len}
 use Rattle.game_rules.specs.Winning.{row_at}

@@ -1,4 +1,4 @@
-use Rattle.std.proofs.Common.{◌≡◌, ◌∙◌, ap, sym, refl, not, cond, position}
+use Rattle.std.proofs.Common.{◌∙◌, ap, sym, refl, not, cond, position}
 use Rattle.std.proofs.lemmas.Slice.Eq.{bytes_eq-Decides}
 use Rattle.std.specs.Str.{bytes_eq}
 use Rattle.outside_io.specs.Faults.{one_more}
