@@ -11,6 +11,7 @@ pub fn card_name(card: Card, bytes: &[u8]) -> &str
     requires { bytes.now ≡ text_of_card card }
     ensures { result.now ≡ text_of_card card }
 {
+    // The call says that the rank is one of a card, so that its text is one.
     let _ = card.rank();
     match str::from_utf8(bytes) {
         Ok(name) => name,

@@ -126,6 +126,7 @@ fn board_of_deal(alloc: Global, rules: &Rules, deal: DealParts) -> Result<Board,
     ensures belongs { IfOk result (λ board. Belongs rules.now board) }
     ensures value { IsReadAs result (position_of_deal rules.now deal) }
 {
+    // The call says that the rules can be played, on which the proof rests.
     let _ = rules.parts();
     if fills_face_down(rules, &deal) {
         return Err(DealFault::PlaceFull(Part::FaceDown));

@@ -114,10 +114,10 @@ const EMPTY: &str =
 fn faults_of_the_file(rt: HostRuntime) {
     for (deal, due) in [
         ("", "not-json"),
-        ("{\"cells\":[]", "not-json"),
+        (r#"{"cells":[]"#, "not-json"),
         ("{} x", "not-json"),
         ("[]", "not-object"),
-        ("{\"cell\":[],\"tableau\":0}", "unknown-key"),
+        (r#"{"cell":[],"tableau":0}"#, "unknown-key"),
         ("{}", "missing-card AC"),
         (r#"{"foundations":[2,2,2,2]}"#, EMPTY),
         (r#"{"foundations":[0],"f\u006fundations":[2,2,2,2]}"#, EMPTY),

@@ -196,6 +196,7 @@ pub fn write_position(alloc: Global, rules: &Rules, board: &Board) -> Result<Vec
     ensures text { IfOk result (λ text. text.items ≡ position_text rules.now board.now) }
     ensures reads_back { IfOk result (λ text. position_of rules.now text.items ≡ Ok board.now) }
 {
+    // The call says that the rules can be played, on which the proof rests.
     let _ = rules.parts();
     let tree = tree_of(alloc, rules, board)?;
     let text = tree.to_vec(alloc)?;

@@ -1,10 +1,10 @@
 //! Going on to what is met next: a win, a state that is not known, or the end.
 
 ghost use Rattle.std.specs.Prelude.{◌≡◌, ◌+◌, ◌<◌, List, OnErr, IfOk, IfSome, IfNone, length};
-ghost use Rattle.dfs_core.specs.Laid.{LineStands, LineMeets, LeadsBack};
+ghost use Rattle.dfs_core.specs.Laid.{StackStands, StackMeets, LeadsBack};
 
-use crate::line::{Frame, Line};
 use crate::space::Space;
+use crate::stack::{Frame, Stack};
 use transposition::{Known, Memo, NoMemory};
 
 /// What is met next.
@@ -22,24 +22,24 @@ pub(crate) enum Met<T, U, K> {
 fn try_step<S: Space, M: Memo<S::Key>>(
     space: &mut S,
     memo: &mut M,
-    line: &mut Line<S::Step, S::Undo>,
+    stack: &mut Stack<S::Step, S::Undo>,
 ) -> Option<Met<S::Step, S::Undo, S::Key>>
-    requires untried { line.old.top.next < length line.old.steps.items }
+    requires untried { stack.old.top.next < length stack.old.steps.items }
     requires stands { (first : S) × (walk : List (List S.Step))
-        × LineStands S.before S.state S.play S.Key.eq (M.capacity memo.old) first walk space.old line.old.frames.items line.old.steps.items line.old.top (M.live memo.old) (M.finished memo.old) }
+        × StackStands S.before S.state S.play S.Key.eq (M.capacity memo.old) first walk space.old stack.old.frames.items stack.old.steps.items stack.old.top (M.live memo.old) (M.finished memo.old) }
     ensures capacity { M.capacity memo.new ≡ M.capacity memo.old }
-    ensures frames { line.new.frames.items ≡ line.old.frames.items }
-    ensures items { line.new.steps.items ≡ line.old.steps.items }
-    ensures begin { line.new.top.begin ≡ line.old.top.begin }
-    ensures tried { IfNone result (line.new.top.next ≡ line.old.top.next + 1) }
+    ensures frames { stack.new.frames.items ≡ stack.old.frames.items }
+    ensures items { stack.new.steps.items ≡ stack.old.steps.items }
+    ensures begin { stack.new.top.begin ≡ stack.old.top.begin }
+    ensures tried { IfNone result (stack.new.top.next ≡ stack.old.top.next + 1) }
     ensures known { IfNone result ((first : S) (walk : List (List S.Step))
-        → LineStands S.before S.state S.play S.Key.eq (M.capacity memo.old) first walk space.old line.old.frames.items line.old.steps.items line.old.top (M.live memo.old) (M.finished memo.old)
-        → LineStands S.before S.state S.play S.Key.eq (M.capacity memo.new) first walk space.new line.new.frames.items line.new.steps.items line.new.top (M.live memo.new) (M.finished memo.new)) }
+        → StackStands S.before S.state S.play S.Key.eq (M.capacity memo.old) first walk space.old stack.old.frames.items stack.old.steps.items stack.old.top (M.live memo.old) (M.finished memo.old)
+        → StackStands S.before S.state S.play S.Key.eq (M.capacity memo.new) first walk space.new stack.new.frames.items stack.new.steps.items stack.new.top (M.live memo.new) (M.finished memo.new)) }
     ensures met { IfSome result (λ met. (first : S) (walk : List (List S.Step))
-        → LineStands S.before S.state S.play S.Key.eq (M.capacity memo.old) first walk space.old line.old.frames.items line.old.steps.items line.old.top (M.live memo.old) (M.finished memo.old)
-        → LineMeets S.before S.state S.play S.Key.eq (M.capacity memo.new) first walk space.new line.new.frames.items line.new.steps.items line.new.top (M.live memo.new) (M.finished memo.new) met) }
+        → StackStands S.before S.state S.play S.Key.eq (M.capacity memo.old) first walk space.old stack.old.frames.items stack.old.steps.items stack.old.top (M.live memo.old) (M.finished memo.old)
+        → StackMeets S.before S.state S.play S.Key.eq (M.capacity memo.new) first walk space.new stack.new.frames.items stack.new.steps.items stack.new.top (M.live memo.new) (M.finished memo.new) met) }
 {
-    let step = line.steps[line.top.next];
+    let step = stack.steps[stack.top.next];
     let undo = space.go(step);
     // A win comes before the memo: a won state may share its key with a known one.
     if space.is_won() {
@@ -51,7 +51,7 @@ fn try_step<S: Space, M: Memo<S::Key>>(
         Known::New => Some(Met::New { step, undo, key }),
         Known::Live | Known::Finished => {
             space.back(undo);
-            line.top.next += 1;
+            stack.top.next += 1;
             None
         }
     }
@@ -61,31 +61,31 @@ fn try_step<S: Space, M: Memo<S::Key>>(
 pub(crate) fn advance<S: Space, M: Memo<S::Key>>(
     space: &mut S,
     memo: &mut M,
-    line: &mut Line<S::Step, S::Undo>,
+    stack: &mut Stack<S::Step, S::Undo>,
 ) -> Result<Met<S::Step, S::Undo, S::Key>, NoMemory>
     requires { (first : S) × (walk : List (List S.Step))
-        × LineStands S.before S.state S.play S.Key.eq (M.capacity memo.old) first walk space.old line.old.frames.items line.old.steps.items line.old.top (M.live memo.old) (M.finished memo.old) }
+        × StackStands S.before S.state S.play S.Key.eq (M.capacity memo.old) first walk space.old stack.old.frames.items stack.old.steps.items stack.old.top (M.live memo.old) (M.finished memo.old) }
     ensures capacity { M.capacity memo.new ≡ M.capacity memo.old }
     ensures met { IfOk result (λ met. (first : S) (walk : List (List S.Step))
-        → LineStands S.before S.state S.play S.Key.eq (M.capacity memo.old) first walk space.old line.old.frames.items line.old.steps.items line.old.top (M.live memo.old) (M.finished memo.old)
-        → LineMeets S.before S.state S.play S.Key.eq (M.capacity memo.new) first walk space.new line.new.frames.items line.new.steps.items line.new.top (M.live memo.new) (M.finished memo.new) met) }
+        → StackStands S.before S.state S.play S.Key.eq (M.capacity memo.old) first walk space.old stack.old.frames.items stack.old.steps.items stack.old.top (M.live memo.old) (M.finished memo.old)
+        → StackMeets S.before S.state S.play S.Key.eq (M.capacity memo.new) first walk space.new stack.new.frames.items stack.new.steps.items stack.new.top (M.live memo.new) (M.finished memo.new) met) }
     ensures err { OnErr result ((first : S) (walk : List (List S.Step))
-        → LineStands S.before S.state S.play S.Key.eq (M.capacity memo.old) first walk space.old line.old.frames.items line.old.steps.items line.old.top (M.live memo.old) (M.finished memo.old)
-        → LeadsBack S.before line.new.frames.items space.new first) }
+        → StackStands S.before S.state S.play S.Key.eq (M.capacity memo.old) first walk space.old stack.old.frames.items stack.old.steps.items stack.old.top (M.live memo.old) (M.finished memo.old)
+        → LeadsBack S.before stack.new.frames.items space.new first) }
 {
     'turns: loop {
-        if line.top.next < line.steps.len() {
-            if let Some(met) = try_step(space, memo, line) {
+        if stack.top.next < stack.steps.len() {
+            if let Some(met) = try_step(space, memo, stack) {
                 return Ok(met);
             }
         } else {
-            let Some(frame) = line.frames.pop() else {
+            let Some(frame) = stack.frames.pop() else {
                 return Ok(Met::Exhausted);
             };
             let Frame { level, undo, .. } = frame;
             space.back(undo);
-            line.steps.truncate(line.top.begin);
-            line.top = level;
+            stack.steps.truncate(stack.top.begin);
+            stack.top = level;
             memo.leave()?;
         }
     }

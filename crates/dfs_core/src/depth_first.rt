@@ -8,8 +8,8 @@ ghost use Rattle.trails.specs.Complete.{IsComplete};
 
 use crate::advance::{Met, advance};
 use crate::expand::{expand, step_on};
-use crate::line::{Level, Line, rewind, trail_of};
 use crate::space::Space;
+use crate::stack::{Level, Stack, rewind, trail_of};
 use crate::trail::{Found, Trail};
 use node_budget::Budget;
 use std::alloc::Global;
@@ -42,13 +42,13 @@ pub fn search<S: Space, M: Memo<S::Key> + Drop>(
         let steps = Vec::new(alloc);
         return Ok(Found::Won(Trail::from_vec(steps)));
     }
-    let mut line = Line {
+    let mut stack = Stack {
         frames: Vec::new(alloc),
         steps: Vec::new(alloc),
         top: Level { begin: 0, next: 0 },
     };
-    let found = run(alloc, space, &mut memo, &mut line, budget);
-    rewind(space, &mut line.frames);
+    let found = run(alloc, space, &mut memo, &mut stack, budget);
+    rewind(space, &mut stack.frames);
     found
 }
 
@@ -57,32 +57,32 @@ fn run<S: Space, M: Memo<S::Key>>(
     alloc: Global,
     space: &mut S,
     memo: &mut M,
-    line: &mut Line<S::Step, S::Undo>,
+    stack: &mut Stack<S::Step, S::Undo>,
     budget: &mut Budget,
 ) -> Result<Found<S::Step>, NoMemory>
     requires not_won { (S.play space.old).won (S.state space.old) ≡ false }
-    requires no_frames { line.old.frames.items ≡ [] }
-    requires no_steps { line.old.steps.items ≡ [] }
-    requires at_begin { line.old.top.begin ≡ 0 }
-    requires none_tried { line.old.top.next ≡ 0 }
+    requires no_frames { stack.old.frames.items ≡ [] }
+    requires no_steps { stack.old.steps.items ≡ [] }
+    requires at_begin { stack.old.top.begin ≡ 0 }
+    requires none_tried { stack.old.top.next ≡ 0 }
     requires not_live { M.live memo.old ≡ [] }
     requires not_finished { M.finished memo.old ≡ [] }
-    ensures leads { LeadsBack S.before line.new.frames.items space.new space.old }
+    ensures leads { LeadsBack S.before stack.new.frames.items space.new space.old }
     ensures limit { budget.new.limit ≡ budget.old.limit }
     ensures answer { IfOk result (IsAnswer (game_of (S.play space.old) S.Key.eq) (S.state space.old) (M.capacity memo.old) budget.old.spent budget.new.spent budget.new.limit) }
 {
     let key = space.key();
-    if !expand(alloc, space, memo, &mut line.steps, key, budget)? {
+    if !expand(alloc, space, memo, &mut stack.steps, key, budget)? {
         return Ok(Found::SpentAll);
     }
     'boards: loop {
-        match advance(space, memo, line)? {
+        match advance(space, memo, stack)? {
             Met::Won(step) => {
-                let trail = trail_of(alloc, &line.frames, step)?;
+                let trail = trail_of(alloc, &stack.frames, step)?;
                 return Ok(Found::Won(trail));
             }
             Met::New { step, undo, key } => {
-                if !step_on(alloc, space, memo, line, step, undo, key, budget)? {
+                if !step_on(alloc, space, memo, stack, step, undo, key, budget)? {
                     return Ok(Found::SpentAll);
                 }
             }

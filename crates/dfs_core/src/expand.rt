@@ -4,10 +4,10 @@ ghost use Rattle.std.specs.Prelude.{◌≡◌, List, [], ◌∷◌, ◌++◌, If
 ghost use Rattle.std.specs.Bool.{OnTrue};
 ghost use Rattle.transposition.specs.Memo.{IsAbsent};
 ghost use Rattle.dfs_core.specs.Standing.{IsExpanded, IsSpent};
-ghost use Rattle.dfs_core.specs.Laid.{LineStands, LineIsNew, LeadsBack, steps_of};
+ghost use Rattle.dfs_core.specs.Laid.{StackStands, StackIsNew, LeadsBack, steps_of};
 
-use crate::line::{Line, descend};
 use crate::space::Space;
+use crate::stack::{Stack, descend};
 use node_budget::Budget;
 use std::alloc::Global;
 use transposition::{Memo, NoMemory};
@@ -45,21 +45,21 @@ pub(crate) fn step_on<S: Space, M: Memo<S::Key>>(
     alloc: Global,
     space: &mut S,
     memo: &mut M,
-    line: &mut Line<S::Step, S::Undo>,
+    stack: &mut Stack<S::Step, S::Undo>,
     step: S::Step,
     undo: S::Undo,
     key: S::Key,
     budget: &mut Budget,
 ) -> Result<bool, NoMemory>
-    requires { (first : S) × (walk : List (List S.Step)) × LineIsNew S.before S.state S.play S.Key.eq (M.capacity memo.old) first walk space.old line.old.frames.items line.old.steps.items line.old.top (M.live memo.old) (M.finished memo.old) step undo key }
-    ensures leads { (first : S) (walk : List (List S.Step)) → LineIsNew S.before S.state S.play S.Key.eq (M.capacity memo.old) first walk space.old line.old.frames.items line.old.steps.items line.old.top (M.live memo.old) (M.finished memo.old) step undo key
-        → LeadsBack S.before line.new.frames.items space.new first }
+    requires { (first : S) × (walk : List (List S.Step)) × StackIsNew S.before S.state S.play S.Key.eq (M.capacity memo.old) first walk space.old stack.old.frames.items stack.old.steps.items stack.old.top (M.live memo.old) (M.finished memo.old) step undo key }
+    ensures leads { (first : S) (walk : List (List S.Step)) → StackIsNew S.before S.state S.play S.Key.eq (M.capacity memo.old) first walk space.old stack.old.frames.items stack.old.steps.items stack.old.top (M.live memo.old) (M.finished memo.old) step undo key
+        → LeadsBack S.before stack.new.frames.items space.new first }
     ensures capacity { M.capacity memo.new ≡ M.capacity memo.old }
     ensures limit { budget.new.limit ≡ budget.old.limit }
     ensures spent { IfOk result (IsSpent budget.old.spent budget.new.spent budget.new.limit) }
-    ensures stands { IfOk result (λ expanded. OnTrue expanded ((first : S) (walk : List (List S.Step)) → LineIsNew S.before S.state S.play S.Key.eq (M.capacity memo.old) first walk space.old line.old.frames.items line.old.steps.items line.old.top (M.live memo.old) (M.finished memo.old) step undo key
-        → LineStands S.before S.state S.play S.Key.eq (M.capacity memo.new) first (walk ++ (steps_of line.old.frames.items ++ step ∷ []) ∷ []) space.new line.new.frames.items line.new.steps.items line.new.top (M.live memo.new) (M.finished memo.new))) }
+    ensures stands { IfOk result (λ expanded. OnTrue expanded ((first : S) (walk : List (List S.Step)) → StackIsNew S.before S.state S.play S.Key.eq (M.capacity memo.old) first walk space.old stack.old.frames.items stack.old.steps.items stack.old.top (M.live memo.old) (M.finished memo.old) step undo key
+        → StackStands S.before S.state S.play S.Key.eq (M.capacity memo.new) first (walk ++ (steps_of stack.old.frames.items ++ step ∷ []) ∷ []) space.new stack.new.frames.items stack.new.steps.items stack.new.top (M.live memo.new) (M.finished memo.new))) }
 {
-    descend(space, line, step, undo)?;
-    expand(alloc, space, memo, &mut line.steps, key, budget)
+    descend(space, stack, step, undo)?;
+    expand(alloc, space, memo, &mut stack.steps, key, budget)
 }

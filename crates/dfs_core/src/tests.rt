@@ -149,16 +149,24 @@ fn known_states_spend_nothing(rt: HostRuntime) -> Result<(), Fail> {
         let mut budget = Budget::new(limit);
         let memo = LruMemo::new(alloc, capacity)?;
         let found = search(alloc, &mut walker, memo, &mut budget)?;
-        assert_eq!(rt; matches!(&found, Found::Exhausted), exhausted);
-        assert_eq!(rt; matches!(&found, Found::SpentAll), !exhausted);
-        assert_eq!(rt; budget.spent(), spent);
+        assert_eq!(rt;
+            matches!(&found, Found::Exhausted),
+            exhausted,
+            "{capacity}, {limit}"
+        );
+        assert_eq!(rt;
+            matches!(&found, Found::SpentAll),
+            !exhausted,
+            "{capacity}, {limit}"
+        );
+        assert_eq!(rt; budget.spent(), spent, "{capacity}, {limit}");
         assert_eq!(rt; walker.at, 5);
     }
     Ok(())
 }
 
 #[test]
-fn a_long_line_needs_no_calls_of_itself(rt: HostRuntime) -> Result<(), Fail> {
+fn a_long_path_needs_no_calls_of_itself(rt: HostRuntime) -> Result<(), Fail> {
     let alloc = rt.alloc();
     let course = Course {
         last: 99_999,

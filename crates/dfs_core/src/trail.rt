@@ -36,7 +36,7 @@ impl<T> Trail<T> {
         &self.steps
     }
 
-    /// The steps as a list that the caller keeps.
+    /// The steps in their order, with no copy of them.
     pub fn into_vec(self) -> Vec<T>
         ensures { result.items ≡ self }
     {

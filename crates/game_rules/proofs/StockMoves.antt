@@ -69,7 +69,7 @@ pub next_cases : (rules : RuleParts) (a b : Board) → IsTrue (deals_to_waste ru
     → Dealt rules a b ⊎ Redealt rules a b
 next_cases rules a b to_waste h = next_by rules a b h.move to_waste h.is_stock_move h.legal h.is_after
 
--- the row of stock and waste stays
+-- the queue of stock and waste stays
 
 turned : (xs ys : List Card) → reverse (xs ++ reverse ys) ≡ ys ++ reverse xs
 turned xs ys = reverse-append xs (reverse ys) ∙ ap (λ (zs : List Card). zs ++ reverse xs) (reverse-reverse ys)
@@ -163,7 +163,7 @@ stock_move-exact rules a move to_waste = (
   λ h. one_stock_move rules a move h.0 h.1,
 )
 
--- the row stays along any number of stock moves
+-- the queue stays along any number of stock moves
 after_stock_move-none : (rules : RuleParts) (a : Board) → stock_move rules a ≡ None → after_stock_move rules a ≡ a
 after_stock_move-none rules a none = rw (none, after_stock_move) refl
 
@@ -179,7 +179,7 @@ queue-after_stock_moves rules zero board to_waste = refl
 queue-after_stock_moves rules (suc k) board to_waste =
     queue-after_stock_moves rules k (after_stock_move rules board) to_waste ∙ queue-step rules board to_waste
 
--- a redeal makes the whole row the stock
+-- a redeal makes the whole queue the stock
 pub stock-redealt : (rules : RuleParts) (a : Board) → Legal rules a Redeal → (after rules a Redeal).stock ≡ queue a
 stock-redealt rules a legal = ap (λ (xs : List Card). xs ++ reverse a.waste) (sym (redeal-empty rules a legal))
 

@@ -44,6 +44,6 @@ pub record HasStockMoves (rules : RuleParts) (k : ℕ) (board : Board) : Type 0 
   pub to_waste : 0 < k → IsTrue (deals_to_waste rules.target)
   pub each : (i : ℕ) → i < k → IsNextByStock rules (after_stock_moves rules i board) (after_stock_moves rules (suc i) board)
 
--- stock and waste as one row of cards: the stock from its bottom up, then the waste from its top down
+-- stock and waste as one queue of cards: the stock from its bottom up, then the waste from its top down
 abbrev pub queue : Board → List Card
 queue board = board.stock ++ reverse board.waste

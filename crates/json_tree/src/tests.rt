@@ -3,7 +3,7 @@ use serde_json::Value;
 
 #[test]
 fn an_object_is_read(rt: HostRuntime) {
-    let top = read_object(rt.alloc(), b"{\"cells\":{\"count\":4}}")
+    let top = read_object(rt.alloc(), br#"{"cells":{"count":4}}"#)
         .ok()
         .expect(&rt, "an object");
     let cells = field(Some(&top), "cells");
@@ -24,7 +24,10 @@ fn each_fault_comes_in_its_order(rt: HostRuntime) {
         ("[]", FileFault::NotObject),
         ("null", FileFault::NotObject),
     ] {
-        assert!(rt; read_object(rt.alloc(), text.as_bytes()).err() == Some(fault));
+        assert!(rt;
+            read_object(rt.alloc(), text.as_bytes()).err() == Some(fault),
+            "at {text}"
+        );
     }
     let blanks = vec![in rt.alloc(); b' '; MAX_FILE_LENGTH]
         .ok()

@@ -160,7 +160,10 @@ fn the_first_bad_line_is_named(rt: HostRuntime) {
         (b"deal", 1),
     ];
     for (bytes, line) in rows {
-        assert!(rt; fault_of(alloc, bytes) == Some(LineFault::BadMove { line }));
+        assert!(rt;
+            fault_of(alloc, bytes) == Some(LineFault::BadMove { line }),
+            "{bytes:?}"
+        );
     }
 }
 

@@ -227,6 +227,6 @@ fn a_small_deal_is_lost(rt: HostRuntime) -> Result<(), Fail> {
     let rules = r#"{"max rank":6,"tableau":{"piles":4,"build":"red-black"},"cells":{"count":1}}"#;
     let mut shelf = shelf_of(alloc, rules, LITTLE_DEAL)?;
     let solved = printed(&rt, alloc, &mut shelf, "solve rules deal")?;
-    assert!(rt; solved.bytes() == b"unwinnable\nnodes 548\nnarrow 0\n".as_slice());
+    assert!(rt; solved.bytes() == b"unwinnable\nnodes 349\nnarrow 0\n".as_slice());
     Ok(())
 }

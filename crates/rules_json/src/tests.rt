@@ -3,19 +3,18 @@ use card_piles::{Build, Card, Suit};
 use game_rules::{Face, Goal, Groups, HoleStart, Layout, Redeals, Spaces, Target};
 use std::alloc::{AllocError, Global};
 
-const FREE_CELL: &str =
-    "{\"tableau\":{\"piles\":8,\"build\":\"red-black\"},\"cells\":{\"count\":4}}";
+const FREE_CELL: &str = r#"{"tableau":{"piles":8,"build":"red-black"},"cells":{"count":4}}"#;
 
 const FREE_CELL_SPELLED: &str =
-    "{\"cells\":{\"count\":4,\"filled\":0},\"decks\":1,\"foundations\":{\"base\":1,\"complete runs\":false,\"started\":false,\"take back\":false},\"max rank\":13,\"reserve\":{\"size\":0,\"stacked\":false},\"stock\":{\"draw\":1,\"redeals\":0,\"size\":0,\"to\":\"waste\"},\"tableau\":{\"build\":\"red-black\",\"face\":\"all up\",\"group build\":\"red-black\",\"groups\":\"one\",\"layout\":\"even\",\"piles\":8,\"spaces\":\"any\",\"wrap\":false}}";
+    r#"{"cells":{"count":4,"filled":0},"decks":1,"foundations":{"base":1,"complete runs":false,"started":false,"take back":false},"max rank":13,"reserve":{"size":0,"stacked":false},"stock":{"draw":1,"redeals":0,"size":0,"to":"waste"},"tableau":{"build":"red-black","face":"all up","group build":"red-black","groups":"one","layout":"even","piles":8,"spaces":"any","wrap":false}}"#;
 
 // Five games beside FreeCell.
 const GAMES: [&str; 5] = [
-    "{\"tableau\":{\"piles\":7,\"layout\":\"triangle\",\"face\":\"top up\",\"build\":\"red-black\",\"groups\":\"run\",\"spaces\":\"king\"},\"stock\":{\"size\":24,\"draw\":3,\"redeals\":\"unlimited\"}}",
-    "{\"tableau\":{\"piles\":17,\"spaces\":\"none\"},\"hole\":{\"start\":\"AS\"}}",
-    "{\"tableau\":{\"piles\":7,\"spaces\":\"none\"},\"hole\":{\"wrap\":false},\"stock\":{\"size\":16,\"to\":\"hole\"}}",
-    "{\"decks\":2,\"tableau\":{\"piles\":10,\"face\":\"top up\",\"build\":\"any-suit\",\"groups\":\"run\",\"group build\":\"same-suit\"},\"foundations\":{\"complete runs\":true},\"stock\":{\"size\":50,\"to\":\"tableau\"}}",
-    "{\"sequences\":{}}",
+    r#"{"tableau":{"piles":7,"layout":"triangle","face":"top up","build":"red-black","groups":"run","spaces":"king"},"stock":{"size":24,"draw":3,"redeals":"unlimited"}}"#,
+    r#"{"tableau":{"piles":17,"spaces":"none"},"hole":{"start":"AS"}}"#,
+    r#"{"tableau":{"piles":7,"spaces":"none"},"hole":{"wrap":false},"stock":{"size":16,"to":"hole"}}"#,
+    r#"{"decks":2,"tableau":{"piles":10,"face":"top up","build":"any-suit","groups":"run","group build":"same-suit"},"foundations":{"complete runs":true},"stock":{"size":50,"to":"tableau"}}"#,
+    r#"{"sequences":{}}"#,
 ];
 
 // What a file is answered, as it is printed, or `ok`.
@@ -310,7 +309,7 @@ fn games_are_read_and_written_again(rt: HostRuntime) {
 #[test]
 fn each_key_gives_its_part(rt: HostRuntime) {
     let file =
-        "{\"decks\":2,\"max rank\":12,\"tableau\":{\"piles\":9,\"layout\":\"triangle\",\"face\":\"top up\",\"build\":\"same-suit\",\"wrap\":true,\"groups\":\"run\",\"group build\":\"any-suit\",\"spaces\":\"king\"},\"foundations\":{\"base\":3,\"started\":true,\"take back\":true},\"cells\":{\"count\":5,\"filled\":2},\"reserve\":{\"size\":7,\"stacked\":true},\"stock\":{\"size\":11,\"draw\":4,\"redeals\":6}}";
+        r#"{"decks":2,"max rank":12,"tableau":{"piles":9,"layout":"triangle","face":"top up","build":"same-suit","wrap":true,"groups":"run","group build":"any-suit","spaces":"king"},"foundations":{"base":3,"started":true,"take back":true},"cells":{"count":5,"filled":2},"reserve":{"size":7,"stacked":true},"stock":{"size":11,"draw":4,"redeals":6}}"#;
     let rules = read_rules(rt.alloc(), file.as_bytes())
         .ok()
         .expect(&rt, "rules");
@@ -350,14 +349,13 @@ fn each_file_has_its_answer(rt: HostRuntime) {
         ORDER.as_slice(),
     ] {
         let other = first_other(rt.alloc(), table).ok().expect(&rt, "memory");
-        println!(rt; "{}", other.unwrap_or("as it says")).expect(&rt, "print");
-        assert!(rt; other.is_none());
+        assert_eq!(rt; other, None, "is answered otherwise");
     }
 }
 
 // An object with a list that nests so deep.
 fn nested(alloc: Global, depth: usize) -> Result<Vec<u8>, AllocError> {
-    let mut bytes = Vec::from_slice(alloc, b"{\"x\":")?;
+    let mut bytes = Vec::from_slice(alloc, br#"{"x":"#)?;
     for _ in 0..depth {
         bytes.push(b'[')?;
     }

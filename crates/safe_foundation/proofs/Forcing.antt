@@ -199,7 +199,7 @@ pub first_safe-here : (rules : RuleParts) (board : Board) (f : ℕ) (c : Card) (
     → ((k : ℕ) → k < f → NoSafeOnto rules board k) → first_safe rules board ≡ Some (Carry from (Foundation f) 1)
 first_safe-here rules board f c from allow limits some first here below =
     first_safe-found rules board (Carry from (Foundation f) 1)
-    (safe-from_facts rules board from f c allow limits first.safely (gives-facts rules board c from first.safely first.gives) here
+    (safe-from_facts rules board from f c allow limits first.safely (gives-facts rules board c from first.safely first.here) here
     (card-is_free rules board f c some))
     (λ other. elim other as (λ (other : Move). IsTrue (is_safe rules board other) → Before other (Carry from (Foundation f) 1) → ⊥) [
       | Carry p to count ↦ elim to as (λ (to : Place). IsTrue (is_safe rules board (Carry p to count)) → Before (Carry p to count) (Carry from (Foundation f) 1) → ⊥) [

@@ -42,7 +42,8 @@ pub not_needed-all : (rules : RuleParts) (board : Board) (c : Card) (rank : ℕ)
 not_needed-all rules board c rank playable allow belongs low high e all =
     not_needed-by_heights rules board c playable allow belongs low high ∙ ap (are_no_bar rules board c) e
     ∙ all-from_range (is_no_bar rules board c (home_place rules rank)) 0 4
-    (λ k few. subst (λ (j : ℕ). is_no_bar rules board c (home_place rules rank) j ≡ true) (omega arith) (all k few))
+    (λ k few. (let plain : k ≡ 0 + k = omega arith in
+    subst (λ (j : ℕ). is_no_bar rules board c (home_place rules rank) j ≡ true) plain (all k few)))
 
 pub not_needed-barred : (rules : RuleParts) (board : Board) (c : Card) (rank suit : ℕ) → IsPlayable rules → IsTrue (rules_allow rules) → Belongs rules board
     → 1 ≤ c.rank → c.rank ≤ rules.max_rank → upper_rank rules c.rank ≡ Some rank

@@ -61,7 +61,7 @@ pub first-pile : (rules : RuleParts) (board : Board) (card : Card) (i : ℕ) →
     → IsFirstPlace rules board card (Tableau i)
 first-pile rules board card i least = record {
   safely = refl;
-  gives = least.0;
+  here = least.0;
   first = λ p. elim p as (λ (p : Place). IsTrue (gives_safely p) → is_place_before source_rank p (Tableau i) ≡ true → gives rules board card p ≡ false) [
     | Tableau k ↦ λ s h. least.1 k (before-same_kind 0 k i h)
     | Cell k ↦ λ s h. absurd (grind (arith, h))
@@ -77,7 +77,7 @@ pub first-cell : (rules : RuleParts) (board : Board) (card : Card) (i : ℕ) →
     → IsLeast (λ i. gives rules board card (Cell i)) (Some i) → IsFirstPlace rules board card (Cell i)
 first-cell rules board card i piles least = record {
   safely = refl;
-  gives = least.0;
+  here = least.0;
   first = λ p. elim p as (λ (p : Place). IsTrue (gives_safely p) → is_place_before source_rank p (Cell i) ≡ true → gives rules board card p ≡ false) [
     | Tableau k ↦ λ s h. piles k
     | Cell k ↦ λ s h. least.1 k (before-same_kind 1 k i h)
@@ -94,7 +94,7 @@ pub first-entry : (rules : RuleParts) (board : Board) (card : Card) (i : ℕ) �
     → IsLeast (λ i. gives rules board card (Reserve i)) (Some i) → IsFirstPlace rules board card (Reserve i)
 first-entry rules board card i piles cells least = record {
   safely = refl;
-  gives = least.0;
+  here = least.0;
   first = λ p. elim p as (λ (p : Place). IsTrue (gives_safely p) → is_place_before source_rank p (Reserve i) ≡ true → gives rules board card p ≡ false) [
     | Tableau k ↦ λ s h. piles k
     | Cell k ↦ λ s h. cells k

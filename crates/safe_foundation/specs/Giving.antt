@@ -35,7 +35,7 @@ IsLeast test found =
 -- the place gives the card to be forced, and no such place stands before it
 pub record IsFirstPlace (rules : RuleParts) (board : Board) (card : Card) (from : Place) : Type 0 where
   pub safely : IsTrue (gives_safely from)
-  pub gives : gives rules board card from ≡ true
+  pub here : gives rules board card from ≡ true
   pub first : (p : Place) → IsTrue (gives_safely p) → IsTrue (is_place_before source_rank p from) → gives rules board card p ≡ false
 
 -- the first place that gives the card to be forced, if one does

@@ -4,7 +4,7 @@ ghost use Rattle.game_rules.specs.Belonging.{Belongs};
 ghost use Rattle.packed_state.specs.Packed.{board_of};
 ghost use Rattle.safe_moves.specs.Safe.{first_safe};
 
-use crate::giving::first_giving;
+use crate::finding::first_giving;
 use crate::need::{free_card, rules_allow};
 use game_model::{Rules, Table};
 use game_rules::{Move, Place};

@@ -9,8 +9,9 @@
 //! is next on its foundation and is not needed.
 #![tactic(auto)]
 
+mod finding;
 mod first;
-mod giving;
+
 mod need;
 
 pub use first::{first_safe, first_safe_of};

@@ -1,5 +1,5 @@
 //! Which card a foundation takes next, and whether another card can still need it.
-ghost use Rattle.std.specs.Prelude.{◌≡◌, ◌≤◌, ◌<◌, length, IsTrue, Option, Some, None};
+ghost use Rattle.std.specs.Prelude.{◌≡◌, ◌≤◌, ◌<◌, length, IsTrue, IfSome};
 ghost use Rattle.game_rules.specs.Board.{height_at};
 ghost use Rattle.game_rules.specs.Belonging.{Belongs};
 ghost use Rattle.safe_moves.specs.Safe.{rules_allow, is_not_needed};
@@ -77,7 +77,9 @@ fn is_not_needed<T: Table>(rules: &Rules, table: &T, card: Card) -> bool
 
 /// The card that a foundation of this height takes next.
 fn next_card(rules: &Rules, f: u8, height: u8) -> Option<Card>
-    ensures { result ≡ next_card rules.now f height }
+    ensures card { result ≡ next_card rules.now f height }
+    ensures low { IfSome result (λ card. 1 ≤ card.rank) }
+    ensures high { IfSome result (λ card. card.rank ≤ rules.now.max_rank) }
 {
     if height < rules.max_rank() {
         Card::new(suit_at(f % 4), rules.foundation_rank(height))

@@ -1,6 +1,6 @@
 -- The first of a list in order that passes a test, and the first safe move.
-use Rattle.std.proofs.Common.{inl, inr, ◌≡◌, ℕ, ◌<◌, suc, zero, Bool, true, false, List, [], ◌∷◌, length, refl, ap, sym, ◌∙◌, get_or, arith}
-use Rattle.std.specs.Prelude.{IsTrue, Option, Some, None, ◌⊎◌, ◌×◌}
+use Rattle.std.proofs.Common.{inl, inr, ◌≡◌, ℕ, ◌<◌, suc, zero, Bool, true, false, List, [], ◌∷◌, length, refl, ap, sym, ◌∙◌, subst, arith}
+use Rattle.std.specs.Prelude.{IsTrue, Option, Some, None}
 use Rattle.std.specs.List.{find, AllPairs, Contains}
 use Rattle.std.proofs.lemmas.Bool.{cases_Bool, cond-true, cond-false}
 use Rattle.game_rules.specs.declared.RuleParts.{RuleParts}

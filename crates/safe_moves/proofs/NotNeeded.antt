@@ -64,7 +64,7 @@ below_fits : (wrap : Bool) (max_rank upper lower : ℕ) → 1 ≤ lower → lowe
 below_fits true max_rank upper lower ll hl h = grind (arith, nat_tests)
 below_fits false max_rank upper lower ll hl h = grind (arith, nat_tests)
 
-upper_within : (wrap : Bool) (max_rank upper lower : ℕ) → 1 ≤ lower → lower ≤ max_rank
+pub upper_within : (wrap : Bool) (max_rank upper lower : ℕ) → 1 ≤ lower → lower ≤ max_rank
     → (if nat_lt 1 lower then Some (lower - 1) else if wrap then Some max_rank else None) ≡ Some upper
     → (1 ≤ upper) × (upper ≤ max_rank)
 upper_within true max_rank upper lower ll hl h = (grind (arith, nat_tests), grind (arith, nat_tests))

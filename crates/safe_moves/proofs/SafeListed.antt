@@ -2,18 +2,14 @@
 use Rattle.std.proofs.Common.{◌≡◌, Bool, true, false, ◌&&◌, sym, subst, arith}
 use Rattle.std.specs.Prelude.{IsTrue, ◌==◌}
 use Rattle.std.specs.List.{list_all}
-use Rattle.std.proofs.lemmas.List.Folds.{list_any_at}
 use Rattle.game_rules.specs.declared.RuleParts.{RuleParts}
 use Rattle.game_rules.specs.declared.Move.{Move}
 use Rattle.game_rules.specs.declared.Move.TheVariants.{Carry, Deal, Redeal}
 use Rattle.game_rules.specs.Board.{Board}
 use Rattle.game_rules.specs.Taking.{taken}
 use Rattle.game_rules.specs.Play.{Legal, is_legal_move}
-use Rattle.game_rules.specs.Order.{legal_moves}
 use Rattle.safe_moves.specs.Safe.{rules_allow, is_safe, is_not_needed, gives_safely, is_foundation}
-use Rattle.safe_moves.specs.Need.{has_safe_move}
 use Rattle.game_rules.proofs.Limits.{both}
-use Rattle.game_rules.proofs.MovesListed.{legal_moves-exact}
 
 pub legal-from_safe : (rules : RuleParts) (board : Board) (move : Move) → IsTrue (is_safe rules board move) → Legal rules board move
 legal-from_safe rules board (Carry from to count) h =

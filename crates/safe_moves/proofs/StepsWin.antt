@@ -57,7 +57,7 @@ steps-legal rules board move = legal_by rules board move (first_safe rules board
 
 once_by : (forced : Option Move) (moves : List Move) → AllPairs (λ a b. a ≢ b) moves → AllPairs (λ a b. a ≢ b) (forced_or forced moves)
 once_by None moves once = once
-once_by (Some move) moves once i j d l m = absurd (omega (arith, l, m))
+once_by (Some move) moves once = λ i j d l m. absurd (omega (arith, l, m))
 
 pub steps-once : (rules : RuleParts) (board : Board) → AllPairs (λ a b. a ≢ b) (steps rules board)
 steps-once rules board = once_by (first_safe rules board) (legal_moves rules board) (legal_moves-once rules board)

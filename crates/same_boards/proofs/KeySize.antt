@@ -105,13 +105,13 @@ no_other true true e h = refl
 no_other true false e h = cc
 no_other false x e h = cc
 
-record RowsAlone (rules : RuleParts) : Type 0 where
-  piles : rules.piles ≡ 0
-  cells : rules.cells ≡ 0
-  reserve : rules.reserve ≡ 0
-  stock : rules.stock ≡ 0
+pub record RowsAlone (rules : RuleParts) : Type 0 where
+  pub piles : rules.piles ≡ 0
+  pub cells : rules.cells ≡ 0
+  pub reserve : rules.reserve ≡ 0
+  pub stock : rules.stock ≡ 0
 
-rows_alone : (rules : RuleParts) → IsPlayable rules → is_sequence_goal rules.goal ≡ true → RowsAlone rules
+pub rows_alone : (rules : RuleParts) → IsPlayable rules → is_sequence_goal rules.goal ≡ true → RowsAlone rules
 rows_alone rules playable goal =
     let none : has_parts_beside_rows rules ≡ false = first_false (has_parts_beside_rows rules) 2 _ playable.no_conflict in
     let all = no_other (is_sequence_goal rules.goal) (nat_eq rules.piles 0 && nat_eq rules.cells 0 && nat_eq rules.reserve 0 && nat_eq rules.stock 0) goal none in

@@ -37,7 +37,7 @@ gaps [] = []
 gaps (None ∷ entries) = None ∷ gaps entries
 gaps (Some card ∷ entries) = gaps entries
 
-some_card : Card → Option Card
+unfoldable pub some_card : Card → Option Card
 some_card card = Some card
 
 entries-parts : (entries : List (Option Card)) → IsPermutation entries (map some_card (cards_in entries) ++ gaps entries)
@@ -68,7 +68,7 @@ gaps-same (None ∷ xs) (None ∷ ys) e =
 gaps-same (None ∷ xs) (Some card ∷ ys) e = gaps-same (None ∷ xs) ys e
 
 -- entries as many, with the same cards up to order, are the same up to order
-entries-permutation : (xs ys : List (Option Card)) → length xs ≡ length ys → IsPermutation (cards_in xs) (cards_in ys) → IsPermutation xs ys
+pub entries-permutation : (xs ys : List (Option Card)) → length xs ≡ length ys → IsPermutation (cards_in xs) (cards_in ys) → IsPermutation xs ys
 entries-permutation xs ys size h =
     let cards_size : length (cards_in ys) ≡ length (cards_in xs) = length_permutation (cards_in xs) (cards_in ys) h in
     let px = parts-size xs in
@@ -84,7 +84,7 @@ entries-permutation xs ys size h =
     IsPermutation-trans xs (map some_card (cards_in ys) ++ gaps ys) ys other (IsPermutation-sym ys (map some_card (cards_in ys) ++ gaps ys) (entries-parts ys))
 
 -- entries that are all filled are their cards
-filled : (entries : List (Option Card)) → IsTrue (list_all (λ (e : Option Card). is_some e) entries) → entries ≡ map some_card (cards_in entries)
+pub filled : (entries : List (Option Card)) → IsTrue (list_all (λ (e : Option Card). is_some e) entries) → entries ≡ map some_card (cards_in entries)
 unfolding some_card
 filled [] h = refl
 filled (None ∷ entries) h = cc
@@ -143,6 +143,20 @@ heights_size : (rules : RuleParts) (a b : Board) → length (all_heights rules a
 heights_size rules a b =
     append_size _ _ _ _ (same_size rules a b 0) (append_size _ _ _ _ (same_size rules a b 1) (append_size _ _ _ _ (same_size rules a b 2) (same_size rules a b 3)))
 
+pub all_heights-size : (rules : RuleParts) (board : Board) → length (all_heights rules board) ≡ 4 * rules.decks
+all_heights-size rules board =
+    let three : List ℕ = sorted_bytes (heights_of_suit rules board 3) in
+    let two : List ℕ = sorted_bytes (heights_of_suit rules board 2) ++ three in
+    let one : List ℕ = sorted_bytes (heights_of_suit rules board 1) ++ two in
+    let a = length-append (sorted_bytes (heights_of_suit rules board 0)) one in
+    let b = length-append (sorted_bytes (heights_of_suit rules board 1)) two in
+    let c = length-append (sorted_bytes (heights_of_suit rules board 2)) three in
+    let s₀ = suit_size rules board 0 in
+    let s₁ = suit_size rules board 1 in
+    let s₂ = suit_size rules board 2 in
+    let s₃ = suit_size rules board 3 in
+    omega (arith, a, b, c, s₀, s₁, s₂, s₃)
+
 suit-from_heights : (rules : RuleParts) (a b : Board) → all_heights rules a ≡ all_heights rules b → (suit : ℕ) → suit < 4
     → sorted_bytes (heights_of_suit rules a suit) ≡ sorted_bytes (heights_of_suit rules b suit)
 suit-from_heights rules a b e zero h = (same_split _ _ _ _ (same_size rules a b 0) e).0
@@ -180,7 +194,7 @@ top-good (card ∷ cards) all =
 entry-from_byte : (x y : Option Card) → IsGoodEntry x → IsGoodEntry y → entry_byte x ≡ entry_byte y → x ≡ y
 entry-from_byte x y good_x good_y e = sym (entry-back x good_x) ∙ ap entry_of_byte e ∙ entry-back y good_y
 
-empty-nil : (cards : List Card) → IsTrue (is_empty cards) → cards ≡ []
+pub empty-nil : (cards : List Card) → IsTrue (is_empty cards) → cards ≡ []
 empty-nil [] h = refl
 empty-nil (card ∷ cards) h = cc
 
@@ -201,13 +215,13 @@ hole-from_bytes false xs ys good_x good_y none_x none_y e =
 
 -- ---- piles
 
-pieces-are : (t : Bool) (piles : List Pile) → All IsPileBytes (if t then map pile_bytes piles else sorted_lists (map pile_bytes piles))
+pub pieces-are : (t : Bool) (piles : List Pile) → All IsPileBytes (if t then map pile_bytes piles else sorted_lists (map pile_bytes piles))
 pieces-are true piles = All-map IsPileBytes pile_bytes piles (λ k d h. pile_bytes-is (get_or piles k d))
 pieces-are false piles =
     All-permutation IsPileBytes (map pile_bytes piles) (sorted_lists (map pile_bytes piles)) (sorted-permutation (slice_cmp nat_cmp) (map pile_bytes piles))
     (All-map IsPileBytes pile_bytes piles (λ k d h. pile_bytes-is (get_or piles k d)))
 
-pieces-size : (t : Bool) (piles : List Pile) → length (if t then map pile_bytes piles else sorted_lists (map pile_bytes piles)) ≡ length piles
+pub pieces-size : (t : Bool) (piles : List Pile) → length (if t then map pile_bytes piles else sorted_lists (map pile_bytes piles)) ≡ length piles
 pieces-size true piles = length-map piles pile_bytes
 pieces-size false piles =
     length_permutation (map pile_bytes piles) (sorted_lists (map pile_bytes piles)) (sorted-permutation (slice_cmp nat_cmp) (map pile_bytes piles)) ∙ length-map piles pile_bytes
@@ -232,7 +246,7 @@ good_rows rules board good =
     (λ k d h. All-take IsGoodEntry rules.max_rank (drop (get_or (range_with_len 0 (4 * rules.decks)) k d * rules.max_rank) board.slots)
     (All-drop IsGoodEntry (get_or (range_with_len 0 (4 * rules.decks)) k d * rules.max_rank) board.slots good))
 
-row_number : (n k d : ℕ) → k < length (range_with_len 0 n) → get_or (range_with_len 0 n) k d < n
+pub row_number : (n k d : ℕ) → k < length (range_with_len 0 n) → get_or (range_with_len 0 n) k d < n
 row_number n k d h =
     let size : length (range_with_len 0 n) ≡ n = length-range_with_len 0 n in
     let inside : k < n = omega (arith, size, h) in

@@ -13,3 +13,4 @@ pub mod KeySize
 pub mod SameAfter
 pub mod KeyBytes
 pub mod BoardCards
+pub mod SameBelongs

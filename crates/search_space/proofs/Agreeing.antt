@@ -7,7 +7,7 @@ use Rattle.game_rules.specs.declared.Move.{Move}
 use Rattle.game_rules.specs.Conflicts.{IsPlayable}
 use Rattle.game_rules.specs.Board.{Board}
 use Rattle.game_rules.specs.Play.{after}
-use Rattle.game_rules.specs.Order.{legal_moves}
+use Rattle.safe_moves.specs.Steps.{steps}
 use Rattle.game_rules.specs.Winning.{Won}
 use Rattle.game_rules.specs.Belonging.{Belongs}
 use Rattle.same_boards.specs.Same.{Same}
@@ -22,7 +22,7 @@ abbrev pub keyed_game : RuleParts → Game Board Move
 keyed_game rules = game_of (play_of rules) (pointwise nat_eq)
 
 pub agrees : (rules : RuleParts) (start : Board) → IsPlayable rules → Belongs rules start
-    → Agree (legal_moves rules) (after rules) (Won rules) (Won rules) (keyed_game rules).Same (Same rules) start
+    → Agree (steps rules) (after rules) (Won rules) (Won rules) (keyed_game rules).Same (Same rules) start
 agrees rules start playable belongs =
     let is = reached-belongs rules (Won rules) (keyed_game rules).Same playable start in
     record {

@@ -8,10 +8,10 @@ use Rattle.game_rules.specs.declared.Move.{Move}
 use Rattle.game_rules.specs.Conflicts.{IsPlayable}
 use Rattle.game_rules.specs.Board.{Board}
 use Rattle.game_rules.specs.Play.{after}
-use Rattle.game_rules.specs.Order.{legal_moves}
 use Rattle.game_rules.specs.Winning.{Won, Line, Wins}
 use Rattle.game_rules.specs.Belonging.{Belongs}
-use Rattle.game_rules.proofs.MovesListed.{legal_moves-exact}
+use Rattle.safe_moves.specs.Steps.{steps}
+use Rattle.safe_moves.proofs.StepsWin.{steps-nearer}
 use Rattle.same_boards.specs.Same.{Same}
 use Rattle.same_boards.proofs.SameWins.{same-wins}
 use Rattle.dfs_core.specs.Play.{game_of}
@@ -24,14 +24,12 @@ won-at_once : (rules : RuleParts) (board last : Board) (moves : List Move) → l
 won-at_once rules board last [] short line won = subst (Won rules) line won
 won-at_once rules board last (move ∷ moves) short line won = absurd (omega (arith, short))
 
-nearer-by_line : (rules : RuleParts) (n : ℕ) (board last : Board) (moves : List Move) → (¬ Won rules board) → length moves ≤ suc n
-    → Line rules board moves last → Won rules last → (t : Move) × Contains (legal_moves rules board) t × Wins rules n (after rules board t)
-nearer-by_line rules n board last [] not_won short line won = absurd (not_won (subst (Won rules) line won))
-nearer-by_line rules n board last (move ∷ moves) not_won short line won =
-    let fewer : length moves ≤ n = omega (arith, short) in
-    (move, (legal_moves-exact rules board move).1 line.0, record { moves = moves; end = last; short = fewer; line = line.1; won = won })
+nearer-by_steps : (rules : RuleParts) (n : ℕ) (board : Board) → IsPlayable rules → Belongs rules board → (¬ Won rules board)
+    → Wins rules (suc n) board → (t : Move) × Contains (steps rules board) t × Wins rules n (after rules board t)
+nearer-by_steps rules n board playable belongs not_won wins =
+    steps-nearer rules board n playable belongs not_won (subst (λ (k : ℕ). Wins rules k board) (omega arith) wins)
 
--- a game of legal moves is complete where no boards count as the same but those that are
+-- a game of these steps is complete where no boards count as the same but those that are
 complete-up_to_same : (rules : RuleParts) (Counts : Board → Board → Type 0) (start : Board) → IsPlayable rules → Belongs rules start
     → ((a b : Board) → Belongs rules a → Belongs rules b → Counts a b → Same rules a b)
     → IsComplete (by_moves rules (Won rules) Counts) (Wins rules) start
@@ -43,7 +41,7 @@ complete-up_to_same rules Counts start playable belongs are =
       won = λ s reached is_won. record { moves = []; end = s; short = omega arith; line = refl; won = is_won };
       alike = λ n s t reached reached' counts wins.
           same-wins rules s t n playable (is s reached) (is t reached') (are s t (is s reached) (is t reached') counts) wins;
-      nearer = λ n s reached not_won wins. nearer-by_line rules n s wins.end wins.moves not_won wins.short wins.line wins.won;
+      nearer = λ n s reached not_won wins. nearer-by_steps rules n s playable (is s reached) not_won wins;
     }
 
 -- up to the same boards

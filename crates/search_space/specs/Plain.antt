@@ -1,12 +1,12 @@
--- What a space with every legal move plays, where it stands, and what it comes back to.
+-- What the space that a solver searches plays, where it stands, and what it comes back to.
 use Rattle.std.specs.Prelude.{ℕ, List, Option, Some, None, if◌then◌else◌}
 use Rattle.game_rules.specs.declared.RuleParts.{RuleParts}
 use Rattle.game_rules.specs.declared.Move.{Move}
 use Rattle.game_rules.specs.Board.{Board}
 use Rattle.game_rules.specs.Play.{after}
-use Rattle.game_rules.specs.Order.{legal_moves}
 use Rattle.game_rules.specs.Winning.{is_won}
 use Rattle.same_boards.specs.Keys.{key_bytes}
+use Rattle.safe_moves.specs.Steps.{steps}
 use Rattle.packed_state.specs.declared.Packed.{Packed}
 use Rattle.packed_state.specs.declared.Undo.{Undo}
 use Rattle.packed_state.specs.Packed.{board_of}
@@ -14,9 +14,9 @@ use Rattle.packed_state.specs.Undoing.{before}
 use Rattle.dfs_core.specs.Play.{Play}
 use Rattle.search_space.specs.Well.{is_well}
 
--- every legal move in the order of moves, the board after it, the won boards, and the key of each board
+-- the first safe move alone, or every legal move in the order of moves, the board after it, the won boards, and the key of each board
 abbrev pub play_of : RuleParts → Play Board Move (List ℕ)
-play_of rules = record { steps = legal_moves rules; after = after rules; won = is_won rules; key = key_bytes rules }
+play_of rules = record { steps = steps rules; after = after rules; won = is_won rules; key = key_bytes rules }
 
 -- the rules that a space plays by, and the packed board on which it stands
 pub record Standing : Type 0 where

@@ -1,4 +1,4 @@
-//! The space with every legal move.
+//! The space that a solver searches.
 ghost use Rattle.std.specs.Prelude.{◌≡◌, ℕ, nat_eq};
 ghost use Rattle.game_rules.specs.Belonging.{Belongs};
 ghost use Rattle.game_rules.specs.Winning.{Wins};
@@ -8,6 +8,7 @@ ghost use Rattle.dfs_core.specs.Play.{game_of};
 ghost use Rattle.std.specs.Cmp.Lexicographic.{pointwise};
 ghost use Rattle.search_space.specs.Plain.{play_of, before_of};
 
+use crate::listing::list_steps;
 use dfs_core::Space;
 use game_model::{Board, Rules};
 use game_rules::Move;
@@ -17,7 +18,8 @@ use std::alloc::Global;
 use std::marker::Model;
 use transposition::NoMemory;
 
-/// A packed board that belongs to its rules, with every legal move as a step.
+/// A packed board that belongs to its rules. Its steps are its first safe move alone, if it has one, else every
+/// legal move.
 #[derive(Drop)]
 pub struct PlainSpace<'a> {
     rules: &'a Rules,
@@ -72,10 +74,7 @@ impl<'a> Space for PlainSpace<'a> {
     ghost wins = { λ s n board. Wins s.rules n board };
 
     fn steps(&mut self, alloc: Global, out: &mut Vec<Move>) -> Result<(), NoMemory> {
-        match self.packed.list_moves(alloc, self.rules, out) {
-            Ok(()) => Ok(()),
-            Err(_) => Err(NoMemory),
-        }
+        list_steps(alloc, self.rules, &self.packed, out)
     }
 
     fn go(&mut self, step: Move) -> Undo {

@@ -95,17 +95,28 @@ fn carry(from: Place, to: Place) -> Move {
 fn steps_are_the_legal_moves_in_order(rt: HostRuntime) -> Result<(), Fail> {
     let alloc = rt.alloc();
     let rules = aces_and_twos()?;
-    let start = board(alloc, &rules, ["2C AD", "AC 2D"], [0, 0, 2, 2])?;
+    let start = board(alloc, &rules, ["AD 2C", "AC 2D"], [0, 0, 2, 2])?;
     let mut space = PlainSpace::new(&rules, &start);
     let mut steps = Vec::new(alloc);
     space.steps(alloc, &mut steps)?;
     let moves = [
-        carry(Place::Tableau(0), Place::Foundation(1)),
         carry(Place::Tableau(0), Place::Cell(0)),
         carry(Place::Tableau(1), Place::Cell(0)),
     ];
     assert!(rt; steps.as_slice() == moves.as_slice());
     assert!(rt; !space.is_won());
+    Ok(())
+}
+
+#[test]
+fn a_safe_move_is_the_one_step(rt: HostRuntime) -> Result<(), Fail> {
+    let alloc = rt.alloc();
+    let rules = aces_and_twos()?;
+    let start = board(alloc, &rules, ["2C AD", "AC 2D"], [0, 0, 2, 2])?;
+    let mut space = PlainSpace::new(&rules, &start);
+    let mut steps = Vec::new(alloc);
+    space.steps(alloc, &mut steps)?;
+    assert!(rt; steps.as_slice() == [carry(Place::Tableau(0), Place::Foundation(1))].as_slice());
     Ok(())
 }
 
@@ -127,12 +138,12 @@ fn comes_back(alloc: Global, space: &mut PlainSpace, place: usize) -> Result<boo
 fn each_step_leads_to_another_key_and_back(rt: HostRuntime) -> Result<(), Fail> {
     let alloc = rt.alloc();
     let rules = aces_and_twos()?;
-    let start = board(alloc, &rules, ["2C AD", "AC 2D"], [0, 0, 2, 2])?;
+    let start = board(alloc, &rules, ["AD 2C", "AC 2D"], [0, 0, 2, 2])?;
     let mut space = PlainSpace::new(&rules, &start);
-    for place in 0..3 {
+    for place in 0..2 {
         assert!(rt; comes_back(alloc, &mut space, place)?);
     }
-    assert!(rt; !comes_back(alloc, &mut space, 3)?);
+    assert!(rt; !comes_back(alloc, &mut space, 2)?);
     Ok(())
 }
 

@@ -99,6 +99,13 @@ fn set_goal(parts: &mut RuleParts, word: &str) {
             take_back: false,
             complete_runs: true,
         };
+    } else if word == "started" {
+        parts.goal = Goal::Foundations {
+            base: 1,
+            started: true,
+            take_back: false,
+            complete_runs: false,
+        };
     } else if word == "hole" {
         parts.goal = hole(false);
     } else if word == "hole-wraps" {

@@ -15,7 +15,7 @@ use Rattle.game_rules.specs.declared.RuleParts.{RuleParts}
 use Rattle.game_rules.specs.declared.Move.{Move}
 use Rattle.game_rules.specs.Board.{Board}
 use Rattle.game_rules.specs.Play.{after}
-use Rattle.game_rules.specs.Order.{legal_moves}
+use Rattle.safe_moves.specs.Steps.{steps}
 use Rattle.game_rules.specs.Winning.{Won, Wins}
 use Rattle.same_boards.specs.Same.{Same}
 use Rattle.search_space.specs.Game.{plain_game}
@@ -25,38 +25,38 @@ use Rattle.solve_job.specs.Verdicts.{IsSearched, IsWinnable, IsUnwinnable, IsUnd
 use Rattle.solve_job.proofs.Lines.{line_of_trail, not_winnable}
 
 module _ (rules : RuleParts) (start : Board) (cache limit spent : ℕ)
-    (agree : Agree (legal_moves rules) (after rules) (Won rules) (Won rules) (keyed_game rules).Same (Same rules) start)
+    (agree : Agree (steps rules) (after rules) (Won rules) (Won rules) (keyed_game rules).Same (Same rules) start)
     (within : spent ≤ limit) where
   module _ (walk : List (List Move)) (is_walk : IsWalk (keyed_game rules) start walk) where
     trail_in : (l : List Move) → Contains walk l → IsTrail (keyed_game rules) start l
     trail_in l c = (clean_in (keyed_game rules) start walk is_walk l c).steps
 
     plain_walk : IsWalk (plain_game rules) start walk
-    plain_walk = walk_there (legal_moves rules) (after rules) (Won rules) (Won rules)
+    plain_walk = walk_there (steps rules) (after rules) (Won rules) (Won rules)
         (keyed_game rules).Same (Same rules) start agree walk is_walk
 
     searched : IsFresh (keyed_game rules) cache start walk → 0 + length walk ≡ spent → IsSearched rules start cache limit spent walk
     searched fresh count = record {
       is_walk = plain_walk;
-      fresh = fresh_there (legal_moves rules) (after rules) (Won rules) (Won rules)
+      fresh = fresh_there (steps rules) (after rules) (Won rules) (Won rules)
           (keyed_game rules).Same (Same rules) start agree cache walk trail_in fresh;
       count = omega (arith, count);
       within = within;
     }
 
     followed : (z : List Move) → Follows (keyed_game rules) start walk z → Follows (plain_game rules) start walk z
-    followed z follows = next_there (legal_moves rules) (after rules) (Won rules) (Won rules)
+    followed z follows = next_there (steps rules) (after rules) (Won rules) (Won rules)
         (keyed_game rules).Same (Same rules) start agree walk z is_walk follows
 
     -- a clean trail that follows the walk, and the two together fresh
     module _ (z : List Move) (is_clean : IsClean (keyed_game rules) start z) (follows : Follows (keyed_game rules) start walk z)
         (is_fresh : IsFresh (keyed_game rules) cache start (walk ++ z ∷ [])) where
       clean_z : IsClean (plain_game rules) start z
-      clean_z = clean_there (legal_moves rules) (after rules) (Won rules) (Won rules)
+      clean_z = clean_there (steps rules) (after rules) (Won rules) (Won rules)
           (keyed_game rules).Same (Same rules) start agree z is_clean
 
       fresh_z : IsFresh (plain_game rules) cache start (walk ++ z ∷ [])
-      fresh_z = fresh_there (legal_moves rules) (after rules) (Won rules) (Won rules)
+      fresh_z = fresh_there (steps rules) (after rules) (Won rules) (Won rules)
           (keyed_game rules).Same (Same rules) start agree cache (walk ++ z ∷ [])
           (λ l listed. ⊎_elim (λ old. trail_in l old) (λ new. subst (IsTrail (keyed_game rules) start) new is_clean.steps)
           (Contains-push_cases walk z l listed)) is_fresh
@@ -83,7 +83,7 @@ module _ (rules : RuleParts) (start : Board) (cache limit spent : ℕ)
   pub unwinnable : IsAnswer (keyed_game rules) start cache 0 spent limit found.Exhausted → ((n : ℕ) → ¬ Wins rules n start)
       → IsUnwinnable rules start cache limit spent
   unwinnable answer never =
-      let closed : IsClosed (plain_game rules) start answer.walk = closed_there (legal_moves rules) (after rules) (Won rules) (Won rules)
+      let closed : IsClosed (plain_game rules) start answer.walk = closed_there (steps rules) (after rules) (Won rules) (Won rules)
       (keyed_game rules).Same (Same rules) start agree answer.walk answer.is_walk answer.ends in
       record {
         never = not_winnable rules start never;

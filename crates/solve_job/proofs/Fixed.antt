@@ -12,7 +12,7 @@ use Rattle.game_rules.specs.declared.Move.{Move}
 use Rattle.game_rules.specs.Board.{Board}
 use Rattle.game_rules.specs.Play.{after}
 use Rattle.game_rules.specs.Winning.{Won, Line, Winnable}
-use Rattle.game_rules.proofs.MovesInOrder.{legal_moves-once}
+use Rattle.safe_moves.proofs.StepsWin.{steps-once}
 use Rattle.line_printer.specs.declared.verdict.Verdict.{Verdict}
 use Rattle.line_printer.specs.declared.verdict.Verdict.TheVariants as verdict
 use Rattle.search_space.specs.Game.{plain_game}
@@ -32,7 +32,7 @@ line_ends rules board last (move ∷ moves) line = line_ends rules (after rules 
 
 -- no legal move stands twice
 plain_steps : (rules : RuleParts) (start : Board) → HasPlainSteps (plain_game rules) start
-plain_steps rules start = λ p is_trail. legal_moves-once rules (end (plain_game rules) start p)
+plain_steps rules start = λ p is_trail. steps-once rules (end (plain_game rules) start p)
 
 -- how a verdict ends its walk: a trail with a won end follows, or the walk is closed, or a trail to a new board
 -- follows that is not won

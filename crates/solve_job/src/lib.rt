@@ -1,4 +1,4 @@
-//! The solver: a depth-first search over every legal move, with a memo of a stated size.
+//! The solver: a depth-first search over the moves that lose no win, with a memo of a stated size.
 //!
 //! Means: a verdict speaks of one start under its rules. `Limits` are what a search may spend and remember.
 //! Above: `solve` answers winnable with a line of legal moves to a won board, unwinnable only where no

@@ -222,6 +222,19 @@ fn a_small_cache_costs_nodes(rt: HostRuntime) -> Result<(), Fail> {
 }
 
 #[test]
+fn a_safe_ace_goes_home_at_once(rt: HostRuntime) -> Result<(), Fail> {
+    let mut parts = plain(4, 2);
+    parts.spaces = Spaces::NoFill;
+    parts.cells = 1;
+    let rules = Rules::new(parts)?;
+    let piles: [&[u8]; 2] = [b"2C3C4C", b"1C"];
+    let start = board(rt.alloc(), &rules, &piles, &[0, 4, 4, 4], b"")?;
+    let text = b"unwinnable\nnodes 3\nnarrow 0\n".as_slice();
+    assert!(rt; prints(rt.alloc(), &rules, &start, 100_000, 1_000_000, text)?);
+    Ok(())
+}
+
+#[test]
 fn a_cell_frees_the_card_below(rt: HostRuntime) -> Result<(), Fail> {
     let mut parts = plain(2, 1);
     parts.cells = 1;

@@ -21,7 +21,7 @@ fn one_finished_key_is_kept(rt: HostRuntime) -> Result<(), Fail> {
 }
 
 #[test]
-fn a_long_line_is_entered_and_left(rt: HostRuntime) -> Result<(), Fail> {
+fn a_long_path_is_entered_and_left(rt: HostRuntime) -> Result<(), Fail> {
     let length: u32 = 10_000;
     let mut memo = LruMemo::new(rt.alloc(), length)?;
     for key in 0..length {

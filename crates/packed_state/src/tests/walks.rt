@@ -1,26 +1,34 @@
-//! Six games, three moves deep: both forms of a board list the same moves, and every move is made,
-//! taken back, and leaves the board as it was.
-ghost use Rattle.std.specs.Prelude.{◌≡◌, OnOk, IfOk};
+//! Eight games, three moves deep: both forms of a board list the same moves, and every move, and
+//! stock moves at once, are made, taken back, and leave the board as it was.
+ghost use Rattle.std.specs.Prelude.{◌≡◌, not, IsTrue, IfSome, OnOk, IfOk};
+ghost use Rattle.game_rules.specs.Rules.{deals_to_waste};
 ghost use Rattle.game_rules.specs.Belonging.{Belongs};
+ghost use Rattle.game_rules.specs.Play.{Legal};
+ghost use Rattle.game_rules.specs.StockMoves.{is_carry};
 ghost use Rattle.packed_state.specs.Packed.{board_of};
 
 use crate::Packed;
 use card_piles::Card;
-use game_model::{Board, BoardParts, Face, Items, Rules};
-use game_rules::suit_at;
+use game_model::{Board, BoardParts, Face, Goal, Items, Rules, Target};
+use game_rules::{Move, suit_at};
 use legal_moves::list_moves;
 use small_games::{no_parts, rules_of, same_boards};
 use std::alloc::{AllocError, Global};
 use std::test::Fail;
 
-/// FreeCell, Klondike, Black Hole, Golf, Spider and Gaps.
-const GAMES: [&str; 6] = [
+/// How many stock moves are made at once: more than a pass of Klondike has.
+const MOST_STOCK_MOVES: u16 = 12;
+
+/// FreeCell, Klondike, Black Hole, Golf, Spider, Gaps, Beleaguered Castle and the little cell.
+const GAMES: [&str; 8] = [
     "ranks 13 piles 8 cells 4 reserve 0 stock 0 red-black",
     "ranks 13 piles 7 cells 0 reserve 0 stock 24 draw 3 unlimited top-up run king red-black",
     "ranks 13 piles 17 cells 0 reserve 0 stock 0 none hole-wraps",
     "ranks 13 piles 7 cells 0 reserve 0 stock 16 to-hole none hole",
     "decks 2 ranks 13 piles 10 cells 0 reserve 0 stock 50 to-tableau top-up run any-suit suit-groups complete-runs",
     "ranks 13 rows",
+    "ranks 13 piles 8 cells 0 reserve 0 stock 0 any-suit started",
+    "ranks 6 piles 4 cells 1 reserve 0 stock 0 red-black",
 ];
 
 /// The card at a place of a deck that was cut and stepped through.
@@ -29,28 +37,40 @@ fn card_at(place: u16) -> Option<Card> {
     Card::new(suit_at((number / 13) as u8), (number % 13) as u8 + 1)
 }
 
-fn push_card(cards: &mut Items<Card>, card: Option<Card>) -> Result<(), AllocError> {
-    match card {
-        Some(card) => cards.push(card),
-        None => Ok(()),
-    }
+/// Whether a dealt game begins with the aces on their foundations.
+fn has_aces_home(rules: &Rules) -> bool {
+    matches!(rules.goal(), Goal::Foundations { started: true, .. })
 }
 
-/// Deals what is left of the deck to the piles, all but the top of each face down if the rules say so.
+/// The cards that are dealt, in their order.
+fn deck(alloc: Global, rules: &Rules) -> Result<Vec<Card>, AllocError> {
+    let mut cards = Vec::new(alloc);
+    let lowest: u8 = if has_aces_home(rules) { 2 } else { 1 };
+    for place in 0..u16::from(rules.decks()) * 52 {
+        if let Some(card) = card_at(place)
+            && lowest <= card.rank()
+            && card.rank() <= rules.max_rank()
+        {
+            cards.push(card)?;
+        }
+    }
+    Ok(cards)
+}
+
+/// Deals the piles, all but the top of each face down if the rules say so.
 fn deal_piles(
     alloc: Global,
     rules: &Rules,
     parts: &mut BoardParts,
-    from: u16,
+    cards: &[Card],
 ) -> Result<(), AllocError> {
-    let piles = u16::from(rules.piles());
-    let cards = u16::from(rules.decks()).saturating_mul(52);
+    let piles = usize::from(rules.piles());
     for i in 0..piles {
         let mut pile = Items::new(alloc);
         let mut height: u8 = 0;
-        for place in from..cards {
+        for (place, card) in cards.iter().enumerate() {
             if place % piles == i {
-                push_card(&mut pile, card_at(place))?;
+                pile.push(*card)?;
                 height = height.saturating_add(1);
             }
         }
@@ -74,6 +94,21 @@ fn deal_rows(alloc: Global, parts: &mut BoardParts) -> Result<(), AllocError> {
     Ok(())
 }
 
+/// Deals so many cards to a list, and gives those that are left.
+fn deal_to<'a>(
+    cards: &mut Items<Card>,
+    mut left: &'a [Card],
+    count: u8,
+) -> Result<&'a [Card], AllocError> {
+    for _ in 0..count {
+        if let Some((card, others)) = left.split_first() {
+            cards.push(*card)?;
+            left = others;
+        }
+    }
+    Ok(left)
+}
+
 /// A whole deal of the game.
 fn deal(alloc: Global, rules: &Rules) -> Result<Board, Fail>
     ensures { IfOk result (λ board. Belongs rules.now board) }
@@ -82,19 +117,68 @@ fn deal(alloc: Global, rules: &Rules) -> Result<Board, Fail>
     if rules.row_count() > 0 {
         deal_rows(alloc, &mut parts)?;
     } else {
-        let mut from: u16 = 0;
+        let cards = deck(alloc, rules)?;
+        let mut left = cards.as_slice();
         if rules.has_hole() {
-            push_card(&mut parts.hole, card_at(0))?;
-            from = 1;
+            left = deal_to(&mut parts.hole, left, 1)?;
         }
-        for _ in 0..rules.stock() {
-            push_card(&mut parts.stock, card_at(from))?;
-            from = from.saturating_add(1);
+        left = deal_to(&mut parts.stock, left, rules.stock())?;
+        if has_aces_home(rules) {
+            for _ in 0..4 {
+                parts.foundations.push(1)?;
+            }
         }
-        deal_piles(alloc, rules, &mut parts, from)?;
+        deal_piles(alloc, rules, &mut parts, left)?;
     }
     let board = Board::new(alloc, rules, parts)?;
     Ok(board)
+}
+
+/// The next stock move of a board whose stock deals to the waste.
+fn next_stock_move(rules: &Rules, packed: &Packed) -> Option<Move>
+    requires { Belongs rules.now (board_of packed.now) }
+    ensures waste { IfSome result (λ m. IsTrue (deals_to_waste rules.now.target)) }
+    ensures legal { IfSome result (λ m. IsTrue (not (is_carry m)) × Legal rules.now (board_of packed.now) m) }
+{
+    if !matches!(rules.target(), Target::ToWaste) {
+        None
+    } else if packed.is_legal(rules, Move::Deal) {
+        Some(Move::Deal)
+    } else if packed.is_legal(rules, Move::Redeal) {
+        Some(Move::Redeal)
+    } else {
+        None
+    }
+}
+
+/// Whether stock moves at once lead where the same moves lead one by one, and are taken back: one
+/// of them, then two, and so on, as long as there are any and up to `most`.
+fn run_stock_moves(
+    alloc: Global,
+    rules: &Rules,
+    packed: &mut Packed,
+    most: u16,
+) -> Result<bool, Fail>
+    requires { Belongs rules.now (board_of packed.old) }
+    ensures { OnOk result (packed.new ≡ packed.old) }
+{
+    let board = packed.to_board(alloc, rules)?;
+    let mut single = Packed::from_board(rules, &board);
+    for made in 0..most {
+        let Some(m) = next_stock_move(rules, &single) else {
+            break;
+        };
+        let _ = single.go(rules, m);
+        let there = single.to_board(alloc, rules)?;
+        let undo = packed.run_stock(rules, made + 1);
+        let leads_there = same_boards(rules, &packed.to_board(alloc, rules)?, &there);
+        packed.unrun_stock(undo);
+        let leads_back = same_boards(rules, &packed.to_board(alloc, rules)?, &board);
+        if !leads_there || !leads_back {
+            return Ok(false);
+        }
+    }
+    Ok(true)
 }
 
 /// How many moves were made so deep and taken back, and None if the two forms of the board listed
@@ -105,6 +189,9 @@ fn walk(alloc: Global, rules: &Rules, packed: &mut Packed, depth: u8) -> Result<
 {
     if depth == 0 {
         return Ok(Some(0));
+    }
+    if !run_stock_moves(alloc, rules, packed, MOST_STOCK_MOVES)? {
+        return Ok(None);
     }
     let board = packed.to_board(alloc, rules)?;
     let mut moves = Vec::new(alloc);
@@ -132,7 +219,7 @@ fn walk(alloc: Global, rules: &Rules, packed: &mut Packed, depth: u8) -> Result<
 }
 
 #[test]
-fn six_games_are_walked_three_moves_deep(rt: HostRuntime) -> Result<(), Fail> {
+fn eight_games_are_walked_three_moves_deep(rt: HostRuntime) -> Result<(), Fail> {
     let alloc = rt.alloc();
     for game in GAMES {
         let rules = rules_of(game)?;

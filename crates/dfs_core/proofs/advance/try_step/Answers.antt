@@ -1,17 +1,17 @@
 use Rattle.std.proofs.Common.{◌≡◌, ◌≢◌, ◌+◌, ◌∙◌, sym, refl, ⊎_elim}
 use Rattle.transposition.specs.declared.memo.Known.TheVariants.{New, Live, Finished}
-use Rattle.dfs_core.proofs.Lines.{line_step, line_tried, line_wins, line_new}
+use Rattle.dfs_core.proofs.Stacks.{stack_step, stack_tried, stack_wins, stack_new}
 use Rattle.dfs_core.proofs.advance.try_step.Goals as goal
 
 pub go-undo-requires : goal.go-undo-requires
 go-undo-requires g c =
     let h = c.requires.stands in
-    line_step g.S.Space.before g.S.Space.state g.S.Space.play g.S.Key.PartialEq.eq (g.M.Memo.capacity c.args.memo.now) h.0 h.1 c.args.space.now c.args.line.now.frames.items c.args.line.now.steps.items c.args.line.now.top
+    stack_step g.S.Space.before g.S.Space.state g.S.Space.play g.S.Key.PartialEq.eq (g.M.Memo.capacity c.args.memo.now) h.0 h.1 c.args.space.now c.args.stack.now.frames.items c.args.stack.now.steps.items c.args.stack.now.top
     (g.M.Memo.live c.args.memo.now) (g.M.Memo.finished c.args.memo.now) h.2 c.index-step.result.now c.requires.untried (sym c.index-step.ensures)
 
 pub returns-then-is_won-clause-met : goal.returns-then-is_won-clause-met
 returns-then-is_won-clause-met g c = λ first walk h.
-    line_wins g.S.Space.before g.S.Space.state g.S.Space.play g.S.Key.PartialEq.eq (g.M.Memo.capacity c.args.memo.now) first walk c.args.space.now c.args.line.now.frames.items c.args.line.now.steps.items c.args.line.now.top
+    stack_wins g.S.Space.before g.S.Space.state g.S.Space.play g.S.Key.PartialEq.eq (g.M.Memo.capacity c.args.memo.now) first walk c.args.space.now c.args.stack.now.frames.items c.args.stack.now.steps.items c.args.stack.now.top
     (g.M.Memo.live c.args.memo.now) (g.M.Memo.finished c.args.memo.now) h c.index-step.result.now c.go-undo.result c.go-undo.new.self c.back.new.self
     c.requires.untried (sym c.index-step.ensures)
     (record { undone = c.go-undo.ensures.undo; state_is = c.go-undo.ensures.state; same_play = c.go-undo.ensures.play })
@@ -19,7 +19,7 @@ returns-then-is_won-clause-met g c = λ first walk h.
 
 pub returns-in-New-clause-met : goal.returns-in-New-clause-met
 returns-in-New-clause-met g c = λ first walk h.
-    line_new g.S.Space.before g.S.Space.state g.S.Space.play g.S.Key.PartialEq.eq (g.M.Memo.capacity c.args.memo.now) first walk c.args.space.now c.args.line.now.frames.items c.args.line.now.steps.items c.args.line.now.top
+    stack_new g.S.Space.before g.S.Space.state g.S.Space.play g.S.Key.PartialEq.eq (g.M.Memo.capacity c.args.memo.now) first walk c.args.space.now c.args.stack.now.frames.items c.args.stack.now.steps.items c.args.stack.now.top
     (g.M.Memo.live c.args.memo.now) (g.M.Memo.finished c.args.memo.now) h c.index-step.result.now c.go-undo.result c.go-undo.new.self c.key-key.result
     (g.M.Memo.live c.look.new.self) (g.M.Memo.finished c.look.new.self) (g.M.Memo.capacity c.look.new.self)
     c.requires.untried (sym c.index-step.ensures)
@@ -37,9 +37,9 @@ returns-in-Live g c =
       begin = refl;
       tried = refl;
       known = λ first walk h.
-          line_tried g.S.Space.before g.S.Space.state g.S.Space.play g.S.Key.PartialEq.eq (g.M.Memo.capacity c.args.memo.now) first walk c.args.space.now c.args.line.now.frames.items c.args.line.now.steps.items c.args.line.now.top
+          stack_tried g.S.Space.before g.S.Space.state g.S.Space.play g.S.Key.PartialEq.eq (g.M.Memo.capacity c.args.memo.now) first walk c.args.space.now c.args.stack.now.frames.items c.args.stack.now.steps.items c.args.stack.now.top
           (g.M.Memo.live c.args.memo.now) (g.M.Memo.finished c.args.memo.now) h g.met.S.Key.Eq.laws c.index-step.result.now c.go-undo.result c.go-undo.new.self c.back-in-Live.new.self
-          c.key-key.result c.look.result (record { begin = c.args.line.now.top.begin; next = c.args.line.now.top.next + 1 })
+          c.key-key.result c.look.result (record { begin = c.args.stack.now.top.begin; next = c.args.stack.now.top.next + 1 })
           (g.M.Memo.live c.look.new.self) (g.M.Memo.finished c.look.new.self) (g.M.Memo.capacity c.look.new.self)
           c.requires.untried (sym c.index-step.ensures)
           (record { undone = c.go-undo.ensures.undo; state_is = c.go-undo.ensures.state; same_play = c.go-undo.ensures.play })

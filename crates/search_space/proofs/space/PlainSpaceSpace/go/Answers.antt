@@ -1,8 +1,8 @@
 use Rattle.std.proofs.Common.{ap, sym, subst, ◌∙◌, Contains}
 use Rattle.std.specs.Prelude.{Some, ◌↔◌}
-use Rattle.game_rules.specs.Order.{legal_moves}
 use Rattle.game_rules.specs.Winning.{Wins}
-use Rattle.game_rules.proofs.MovesListed.{legal_moves-exact}
+use Rattle.safe_moves.specs.Steps.{steps}
+use Rattle.safe_moves.proofs.StepsWin.{steps-legal}
 use Rattle.packed_state.specs.Packed.{board_of}
 use Rattle.search_space.specs.Plain.{Standing}
 use Rattle.search_space.proofs.Returning.{before_of-some}
@@ -10,8 +10,8 @@ use Rattle.search_space.proofs.space.PlainSpaceSpace.go.Goals as goal
 
 pub go-requires-clause-legal : goal.go-requires-clause-legal
 go-requires-clause-legal c =
-    (legal_moves-exact c.self.inside.rules.now (board_of c.self.inside.packed) c.args.step).0
-    (subst (λ (s : Standing). Contains (legal_moves s.rules (board_of s.packed)) c.args.step) (sym c.self.view_is) c.requires)
+    steps-legal c.self.inside.rules.now (board_of c.self.inside.packed) c.args.step
+    (subst (λ (s : Standing). Contains (steps s.rules (board_of s.packed)) c.args.step) (sym c.self.view_is) c.requires)
 
 pub returns-clause-undo : goal.returns-clause-undo
 returns-clause-undo c =
