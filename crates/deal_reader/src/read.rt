@@ -1,5 +1,5 @@
 //! From the bytes of a file to a board.
-ghost use Rattle.std.specs.Prelude.{◌≡◌, ◌&&◌, not, ◌⊎◌, ◌-◌, min, map, length, nat_lt, IfOk};
+ghost use Rattle.std.specs.Prelude.{◌≡◌, ◌&&◌, not, ◌⊎◌, ◌-◌, min, map, length, nat_lt, IsErrOf, IfOk};
 ghost use Rattle.std.specs.List.{list_any};
 ghost use Rattle.serde_json.specs.View.{view};
 ghost use Rattle.game_rules.specs.Belonging.{Belongs};
@@ -152,7 +152,7 @@ fn board_of_tree(alloc: Global, rules: &Rules, top: &Value) -> Result<Board, Dea
 #[tactic(auto, unfolding(crate::specs::Position::position_of))]
 pub fn read_position(alloc: Global, rules: &Rules, bytes: &[u8]) -> Result<Board, DealFault>
     ensures belongs { IfOk result (λ board. Belongs rules.now board) }
-    ensures value { IsReadAs result (position_of rules.now bytes.now) }
+    ensures value { ¬ (IsErrOf result DealFault.Memory) → result ≡ position_of rules.now bytes.now }
 {
     match read_object(alloc, bytes) {
         Ok(top) => board_of_tree(alloc, rules, &top),

@@ -1,9 +1,15 @@
 -- What several reads took, and what several writes wrote, one after the other.
-use Rattle.std.proofs.Common.{◌≡◌, ◌≤◌, ℕ, List, [], ◌++◌, length, take, drop, Option, Some, None, refl, sym, ap, ◌∙◌, subst, append-nil, append_assoc, arith, absurd, take-append-drop}
+use Rattle.std.proofs.Common.{◌≡◌, ◌<◌, ◌≤◌, ◌-◌, ℕ, List, [], ◌++◌, length, take, drop, Option, Some, None, Result, Ok, Err, OnErr, refl, sym, ap, ◌∙◌, subst, append-nil, append_assoc, length-append, take-append-drop, arith}
 use Rattle.std.proofs.Math.Seq.{take-append_seam}
-use Rattle.std.proofs.lemmas.List.{take_all}
+use Rattle.std.proofs.lemmas.List.{take_all, length-drop}
 use Rattle.std.specs.Io.KnownBytes.{Consumes, IsAtEnd, Keeps, Appends}
+use Rattle.std.proofs.KnownBytes.{Appends-trans}
 use Rattle.outside_io.specs.Reading.{ReadsFront}
+use Rattle.outside_io.specs.Sink.{AppendsPart}
+
+pub OnErr-any : {T E : Type 0} (r : Result T E) (P : Type 0) → P → OnErr r P
+OnErr-any (Ok x) P p = tt
+OnErr-any (Err e) P p = p
 
 -- a reader at its end gave all its bytes
 pub reads_to_end : (most : ℕ) (before after : Option (List ℕ)) (old new done : List ℕ) → new ≡ old ++ done → Consumes before after done → length done ≤ most → IsAtEnd after
@@ -53,3 +59,21 @@ Appends-kept None mid new bytes h k = tt
 Appends-kept (Some xs) None new bytes h k = absurd h
 Appends-kept (Some xs) (Some ys) None bytes h k = absurd k
 Appends-kept (Some xs) (Some ys) (Some zs) bytes h k = k ∙ h
+
+-- of a piece more bytes were written, the first of the rest
+pub Appends-more : (old mid new : Option (List ℕ)) (piece bytes rest : List ℕ) (count : ℕ) → piece ≡ bytes ++ rest → Appends old mid bytes → Appends mid new (take count rest)
+    → (done : List ℕ) × (piece ≡ done ++ take (length rest - count) (drop count rest)) × Appends old new done
+Appends-more old mid new piece bytes rest count is before after = (
+  bytes ++ take count rest,
+  is ∙ ap (λ l. bytes ++ l) (sym (take-append-drop count rest)) ∙ sym (append_assoc bytes (take count rest) (drop count rest))
+      ∙ ap (λ l. (bytes ++ take count rest) ++ l) (sym (take_all (length rest - count) (drop count rest) (omega (arith, length-drop count rest)))),
+  Appends-trans old mid new bytes (take count rest) before after,
+)
+
+-- of a piece nothing more was written, and some of it is left
+pub AppendsPart-stopped : (old mid new : Option (List ℕ)) (piece bytes rest : List ℕ) → piece ≡ bytes ++ rest → 0 < length rest → Appends old mid bytes → Keeps mid new → AppendsPart old new piece
+AppendsPart-stopped old mid new piece bytes rest is some before kept = (
+  length bytes,
+  omega (arith, some, ap (λ (xs : List ℕ). length xs) is, length-append bytes rest),
+  subst (Appends old new) (sym (ap (take (length bytes)) is ∙ take-append_seam bytes rest)) (Appends-kept old mid new bytes before kept),
+)

@@ -1,6 +1,6 @@
 //! Reading the front of a file, over any reader that tells its bytes.
 
-ghost use Rattle.std.specs.Prelude.{◌≡◌, ◌+◌, OnOk, OnErr, IfErr, IsErrOf};
+ghost use Rattle.std.specs.Prelude.{◌≡◌, ◌≤◌, ◌+◌, OnOk, OnErr, IfErr, IsErrOf};
 ghost use Rattle.std.specs.Io.{ReadsAtMost};
 ghost use Rattle.std.specs.Io.KnownBytes.{ReadConsumes};
 ghost use Rattle.outside_io.specs.Faults.{one_more};
@@ -19,6 +19,7 @@ fn read_once<F: Read>(file: &mut F, block: &mut [u8], faults: &mut u64) -> Resul
     ensures failed { IfErr result (λ fault. fault ≡ ShelfFault.Failed) }
     ensures raised { OnErr result (faults.new ≡ one_more faults.old) }
     ensures kept { OnOk result (faults.new ≡ faults.old) }
+    ensures never_falls { faults.old ≤ faults.new }
 {
     match file.read(block) {
         Ok(count) => Ok(count),
@@ -41,6 +42,7 @@ pub(crate) fn read_up_to<F: Read>(
     ensures part { OnErr result (GrowsUpTo limit out.old.items out.new.items) }
     ensures raised { IsErrOf result ShelfFault.Failed → faults.new ≡ one_more faults.old }
     ensures kept { ¬ (IsErrOf result ShelfFault.Failed) → faults.new ≡ faults.old }
+    ensures never_falls { faults.old ≤ faults.new }
 {
     let start = out.len();
     let mut block = [0u8; BLOCK];

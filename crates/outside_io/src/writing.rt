@@ -15,6 +15,7 @@ fn write_once<W: Write>(writer: &mut W, piece: &[u8], faults: &mut u64) -> Resul
     ensures bytes { WriteAppends (W.contents writer.old) (W.contents writer.new) result piece.now }
     ensures raised { OnErr result (faults.new ≡ one_more faults.old) }
     ensures kept { OnOk result (faults.new ≡ faults.old) }
+    ensures never_falls { faults.old ≤ faults.new }
 {
     match writer.write(piece) {
         Ok(count) if count > 0 => Ok(count),
@@ -36,6 +37,7 @@ pub(crate) fn write_whole<W: Write>(
     ensures part { OnErr result (AppendsPart (W.contents writer.old) (W.contents writer.new) piece.now) }
     ensures raised { OnErr result (faults.new ≡ one_more faults.old) }
     ensures kept { OnOk result (faults.new ≡ faults.old) }
+    ensures never_falls { faults.old ≤ faults.new }
 {
     let mut rest = piece;
     while !rest.is_empty() {
