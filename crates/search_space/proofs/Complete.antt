@@ -1,5 +1,5 @@
 -- Every win has a step that comes nearer to it, and boards that count as the same win alike.
-use Rattle.std.proofs.Common.{◌≡◌, ℕ, suc, ◌≤◌, List, [], ◌∷◌, length, refl, subst, arith, Contains}
+use Rattle.std.proofs.Common.{ℕ, suc, ◌≤◌, List, [], ◌∷◌, length, refl, subst, arith, Contains}
 use Rattle.std.specs.Prelude.{nat_eq}
 use Rattle.std.specs.Cmp.Lexicographic.{pointwise}
 use Rattle.trails.specs.Complete.{IsComplete, IsReached}

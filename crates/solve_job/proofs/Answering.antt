@@ -1,11 +1,10 @@
 -- The verdict, from what the search answered: a walk by equal keys is a walk up to the same boards.
-use Rattle.std.proofs.Common.{◌≡◌, ℕ, ◌+◌, ◌<◌, ◌≤◌, Bool, true, refl, sym, ◌∙◌, subst, ⊎_elim, List, [], ◌∷◌, ◌++◌, length, length-append, min, arith, Contains}
+use Rattle.std.proofs.Common.{◌≡◌, ℕ, ◌+◌, ◌<◌, ◌≤◌, refl, sym, subst, ⊎_elim, List, [], ◌∷◌, ◌++◌, length, length-append, min, arith, Contains}
 use Rattle.std.proofs.lemmas.List.Elements.{Contains-push_cases}
 use Rattle.trails.specs.Trails.{end, IsTrail, IsClean}
 use Rattle.trails.specs.Walks.{Follows, IsWalk, IsClosed}
 use Rattle.trails.specs.Fresh.{IsFresh, IsCover}
 use Rattle.trails.specs.Complete.{IsComplete}
-use Rattle.trails.specs.Order.{IsAlike}
 use Rattle.trails.proofs.Laws.{clean_in}
 use Rattle.trails.proofs.FirstEnds.{each_follows, longer_cover}
 use Rattle.dfs_core.specs.Answer.{IsAnswer}

@@ -1,5 +1,5 @@
 -- What follows from verdicts alone: where nothing is forgotten, there is one.
-use Rattle.std.proofs.Common.{◌≡◌, ℕ, ◌≤◌, inl, inr, ap, sym, ◌∙◌, subst, List, [], ◌∷◌, ◌++◌, length, arith}
+use Rattle.std.proofs.Common.{◌≡◌, ℕ, ◌≤◌, inl, inr, ap, sym, ◌∙◌, subst, List, [], ◌∷◌, length, arith}
 use Rattle.trails.specs.Trails.{end}
 use Rattle.trails.specs.Walks.{Follows, IsWalk, IsClosed}
 use Rattle.trails.specs.Fresh.{IsFresh}

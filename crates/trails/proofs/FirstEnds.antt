@@ -1,13 +1,12 @@
 -- The first ends of a fresh list are pairwise not the same, so a cover is longer.
-use Rattle.std.proofs.Common.{◌≡◌, ℕ, ◌+◌, ◌<◌, ◌≤◌, inl, inr, ⊎_elim, refl, ap, sym, ◌∙◌, subst, List, [], ◌∷◌, ◌++◌, length, length-append, arith, Contains, All, AllPairs, get_or, take, drop, min}
+use Rattle.std.proofs.Common.{◌≡◌, ℕ, ◌+◌, ◌<◌, ◌≤◌, ⊎_elim, sym, ◌∙◌, subst, List, [], ◌∷◌, ◌++◌, length, arith, Contains, All, get_or, take, min}
 use Rattle.std.proofs.lemmas.List.{get_or_default, get_or-take, length-take}
 use Rattle.trails.specs.Game.{Game}
 use Rattle.trails.specs.Trails.{end, IsClean}
 use Rattle.trails.specs.Walks.{Follows, IsWalk}
 use Rattle.trails.specs.Fresh.{IsFresh, IsCover}
 use Rattle.trails.specs.Order.{HasPlainEnds, IsAlike}
-use Rattle.trails.proofs.Lists.{push_split, contains_split}
-use Rattle.trails.proofs.Laws.{clean_in}
+use Rattle.trails.proofs.Lists.{push_split}
 use Rattle.trails.proofs.FreshLaws.{few_places, ends_apart}
 
 module _ {State Step : Type 0} (game : Game State Step) (start : State) where
