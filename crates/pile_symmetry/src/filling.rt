@@ -99,7 +99,11 @@ fn push_copies(cards: &mut Items<Card>, card: Card, n: u8) -> Result<(), AllocEr
 }
 
 /// The cards that stand nowhere, in ascending order.
-fn lacking_cards(alloc: Global, rules: &Rules, parts: &BoardParts) -> Result<Items<Card>, AllocError>
+fn lacking_cards(
+    alloc: Global,
+    rules: &Rules,
+    parts: &BoardParts,
+) -> Result<Items<Card>, AllocError>
     ensures { IfOk result (λ cards. cards ≡ lacking_cards rules.now parts.now) }
 {
     let mut cards = Items::new(alloc);
@@ -122,7 +126,11 @@ fn filled(alloc: Global, rules: &Rules, parts: &BoardParts) -> Result<Items<Card
 }
 
 /// The hole of parts that have its top alone.
-pub(crate) fn hole_in(alloc: Global, rules: &Rules, parts: &BoardParts) -> Result<Items<Card>, AllocError>
+pub(crate) fn hole_in(
+    alloc: Global,
+    rules: &Rules,
+    parts: &BoardParts,
+) -> Result<Items<Card>, AllocError>
     ensures { IfOk result (λ hole. hole ≡ hole_in rules.now parts.now) }
 {
     if rules.has_hole() {

@@ -69,7 +69,11 @@ fn heights_in(alloc: Global, rules: &Rules, bytes: &[u8]) -> Result<Items<u8>, A
 }
 
 /// The cards of each pile, and the numbers of face-down cards.
-fn piles_in(alloc: Global, n: u8, bytes: &[u8]) -> Result<(Items<Items<Card>>, Items<u8>), AllocError>
+fn piles_in(
+    alloc: Global,
+    n: u8,
+    bytes: &[u8],
+) -> Result<(Items<Items<Card>>, Items<u8>), AllocError>
     ensures tableau { IfOk result (λ piles. piles.0 ≡ map (λ pile. pile.cards) (piles_in n bytes.now)) }
     ensures face_down { IfOk result (λ piles. piles.1 ≡ map (λ pile. pile.face_down) (piles_in n bytes.now)) }
 {
@@ -96,7 +100,11 @@ fn entries_in(alloc: Global, bytes: &[u8]) -> Result<Items<Option<Card>>, AllocE
     Ok(entries)
 }
 
-fn rows_in(alloc: Global, rules: &Rules, bytes: &[u8]) -> Result<Items<Items<Option<Card>>>, AllocError>
+fn rows_in(
+    alloc: Global,
+    rules: &Rules,
+    bytes: &[u8],
+) -> Result<Items<Items<Option<Card>>>, AllocError>
     ensures { IfOk result (λ rows. rows ≡ rows_in rules.now bytes.now) }
 {
     let mut rows = Items::new(alloc);
@@ -122,7 +130,11 @@ fn top_in(alloc: Global, bytes: &[u8]) -> Result<Items<Card>, AllocError>
 }
 
 /// The parts of a board, of whose hole the top alone is said.
-pub(crate) fn parts_said(alloc: Global, rules: &Rules, said: &Said<'_>) -> Result<BoardParts, AllocError>
+pub(crate) fn parts_said(
+    alloc: Global,
+    rules: &Rules,
+    said: &Said<'_>,
+) -> Result<BoardParts, AllocError>
     ensures { IfOk result (λ parts. parts ≡ parts_said rules.now said.now) }
 {
     let (tableau, face_down) = piles_in(alloc, rules.piles(), said.rest)?;

@@ -6,7 +6,8 @@ use crate::tests::{no_parts, small_parts};
 use crate::{board_of, key_of, key_of_board};
 use card_piles::{Build, Card};
 use game_model::{
-    Board, BoardParts, Face, Goal, Groups, HoleStart, Items, Layout, Redeals, RuleParts, Rules, Spaces, Target,
+    Board, BoardParts, Face, Goal, Groups, HoleStart, Items, Layout, Redeals, RuleParts, Rules,
+    Spaces, Target,
 };
 use game_rules::suit_at;
 use packed_state::Packed;
@@ -22,7 +23,10 @@ struct Dice {
 impl Dice {
     /// A number below n, and 0 where n is 0.
     fn below(&mut self, n: usize) -> usize {
-        self.state = self.state.wrapping_mul(6364136223846793005).wrapping_add(1442695040888963407);
+        self.state = self
+            .state
+            .wrapping_mul(6364136223846793005)
+            .wrapping_add(1442695040888963407);
         if n == 0 {
             return 0;
         }
@@ -55,7 +59,10 @@ fn profile(name: &str) -> RuleParts {
         "black-hole" => {
             parts.piles = 17;
             parts.spaces = Spaces::NoFill;
-            parts.goal = Goal::Hole { wrap: true, start: HoleStart::Dealt };
+            parts.goal = Goal::Hole {
+                wrap: true,
+                start: HoleStart::Dealt,
+            };
         }
         "reserve" => {
             parts.piles = 10;
@@ -110,7 +117,12 @@ fn deck(alloc: Global, rules: &Rules, dice: &mut Dice) -> Result<Items<Card>, Al
 }
 
 /// Deals rows of the greatest rank of slots each; the last of each row is empty.
-fn deal_rows(alloc: Global, rules: &Rules, cards: &mut Items<Card>, parts: &mut BoardParts) -> Result<(), AllocError> {
+fn deal_rows(
+    alloc: Global,
+    rules: &Rules,
+    cards: &mut Items<Card>,
+    parts: &mut BoardParts,
+) -> Result<(), AllocError> {
     for _ in 0..rules.row_count() {
         let mut row = Items::new(alloc);
         for _ in 1..rules.max_rank() {
@@ -122,18 +134,33 @@ fn deal_rows(alloc: Global, rules: &Rules, cards: &mut Items<Card>, parts: &mut 
 }
 
 /// Deals the cards to piles of almost one size, all but their tops face down where the rules say so.
-fn deal_piles(alloc: Global, rules: &Rules, cards: &mut Items<Card>, parts: &mut BoardParts) -> Result<(), AllocError> {
+fn deal_piles(
+    alloc: Global,
+    rules: &Rules,
+    cards: &mut Items<Card>,
+    parts: &mut BoardParts,
+) -> Result<(), AllocError> {
     for i in 0..rules.piles() {
         let mut pile = Items::new(alloc);
         let left = usize::from(rules.piles()).saturating_sub(usize::from(i));
-        let size = if left == 1 { cards.len() } else { cards.len().saturating_add(usize::from(i % 2)) / left.max(1) };
+        let size = if left == 1 {
+            cards.len()
+        } else {
+            cards.len().saturating_add(usize::from(i % 2)) / left.max(1)
+        };
+        let mut height: u8 = 0;
         for _ in 0..size {
             if let Some(card) = cards.pop() {
                 pile.push(card)?;
+                height = height.saturating_add(1);
             }
         }
-        let down = if matches!(rules.face(), Face::TopUp) { pile.len().saturating_sub(1) } else { 0 };
-        parts.face_down.push(down as u8)?;
+        let down = if matches!(rules.face(), Face::TopUp) {
+            height.saturating_sub(1)
+        } else {
+            0
+        };
+        parts.face_down.push(down)?;
         parts.tableau.push(pile)?;
     }
     Ok(())
@@ -184,7 +211,13 @@ fn step(alloc: Global, rules: &Rules, board: &Board, dice: &mut Dice) -> Result<
 }
 
 /// Copies the piles in another order, but where the order of piles counts.
-fn copy_piles(alloc: Global, rules: &Rules, board: &Board, dice: &mut Dice, parts: &mut BoardParts) -> Result<(), AllocError>
+fn copy_piles(
+    alloc: Global,
+    rules: &Rules,
+    board: &Board,
+    dice: &mut Dice,
+    parts: &mut BoardParts,
+) -> Result<(), AllocError>
     requires { Belongs rules.now board.now }
 {
     let counts = matches!(rules.target(), Target::ToTableau) && !board.stock().is_empty();
@@ -192,7 +225,9 @@ fn copy_piles(alloc: Global, rules: &Rules, board: &Board, dice: &mut Dice, part
     for other in &shuffled(alloc, rules.piles(), dice)? {
         let pile = if counts { from } else { *other };
         if pile < rules.piles() {
-            parts.tableau.push(Items::from_slice(alloc, board.pile(pile))?)?;
+            parts
+                .tableau
+                .push(Items::from_slice(alloc, board.pile(pile))?)?;
             parts.face_down.push(board.face_down(pile))?;
         }
         from = from.saturating_add(1);
@@ -201,7 +236,13 @@ fn copy_piles(alloc: Global, rules: &Rules, board: &Board, dice: &mut Dice, part
 }
 
 /// Copies the cells, the reserve and the rows in another order.
-fn copy_entries(alloc: Global, rules: &Rules, board: &Board, dice: &mut Dice, parts: &mut BoardParts) -> Result<(), AllocError>
+fn copy_entries(
+    alloc: Global,
+    rules: &Rules,
+    board: &Board,
+    dice: &mut Dice,
+    parts: &mut BoardParts,
+) -> Result<(), AllocError>
     requires { Belongs rules.now board.now }
 {
     for cell in &shuffled(alloc, rules.cells(), dice)? {
@@ -228,7 +269,12 @@ fn copy_entries(alloc: Global, rules: &Rules, board: &Board, dice: &mut Dice, pa
 }
 
 /// The parts of a board with like places in another order.
-fn shuffled_copy(alloc: Global, rules: &Rules, board: &Board, dice: &mut Dice) -> Result<BoardParts, AllocError>
+fn shuffled_copy(
+    alloc: Global,
+    rules: &Rules,
+    board: &Board,
+    dice: &mut Dice,
+) -> Result<BoardParts, AllocError>
     requires { Belongs rules.now board.now }
 {
     let mut parts = no_parts(alloc);
@@ -264,7 +310,12 @@ fn exchange_tops(parts: &mut BoardParts) -> Result<bool, AllocError> {
 
 /// Whether the key of a board is that of its shuffled copy and of the board that it is read back to, and not that of
 /// the copy with two tops exchanged.
-fn keys_are_right(alloc: Global, rules: &Rules, board: &Board, dice: &mut Dice) -> Result<bool, Fail>
+fn keys_are_right(
+    alloc: Global,
+    rules: &Rules,
+    board: &Board,
+    dice: &mut Dice,
+) -> Result<bool, Fail>
     requires { Belongs rules.now board.now }
 {
     let key = key_of_board(rules, board);
@@ -302,7 +353,14 @@ fn game_is_right(alloc: Global, rules: &Rules, dice: &mut Dice) -> Result<bool, 
 #[test]
 fn keys_of_played_boards_are_right(rt: HostRuntime) -> Result<(), Fail> {
     let mut dice = Dice { state: 18 };
-    for name in ["freecell", "klondike", "black-hole", "reserve", "spider", "gaps"] {
+    for name in [
+        "freecell",
+        "klondike",
+        "black-hole",
+        "reserve",
+        "spider",
+        "gaps",
+    ] {
         let rules = Rules::new(profile(name))?;
         assert!(rt; game_is_right(rt.alloc(), &rules, &mut dice)?, "at {name}");
     }

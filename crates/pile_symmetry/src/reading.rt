@@ -106,5 +106,9 @@ pub(crate) fn card_of_byte(byte: u8) -> Card
 pub(crate) fn entry_of_byte(byte: u8) -> Option<Card>
     ensures { result ≡ entry_of_byte byte }
 {
-    if byte == 0 { None } else { Some(card_of_byte(byte)) }
+    if byte == 0 {
+        None
+    } else {
+        Some(card_of_byte(byte))
+    }
 }

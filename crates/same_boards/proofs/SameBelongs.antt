@@ -1,5 +1,5 @@
 -- A board that is the same as one that belongs to the rules belongs to them, if its hole holds the same cards.
-use Rattle.std.proofs.Common.{◌≡◌, ℕ, ◌+◌, ◌%◌, ◌<◌, ◌≤◌, Bool, true, false, ◌||◌, List, [], ◌∷◌, map, length, get_or, refl, ap, ap₂, sym, ◌∙◌, subst, arith, lit<, mod-eq_of_lt}
+use Rattle.std.proofs.Common.{◌≡◌, ℕ, ◌+◌, ◌%◌, ◌<◌, Bool, true, false, ◌||◌, List, [], ◌∷◌, map, length, get_or, refl, ap, ap₂, sym, ◌∙◌, subst, arith, lit<, mod-eq_of_lt}
 use Rattle.std.specs.Prelude.{cond, IsTrue, MatchBool, Option, nat_eq, nat_le, is_some, if◌then◌else◌}
 use Rattle.std.specs.List.{list_all, sum_by, enumerate_from, range_with_len}
 use Rattle.std.specs.List.Sorted.{IsPermutation}
@@ -9,14 +9,12 @@ use Rattle.std.proofs.lemmas.List.Sums.{sum_by-cons}
 use Rattle.std.proofs.lemmas.List.Sorted.{IsPermutation-refl, sum_by-IsPermutation, length_permutation}
 use Rattle.std.proofs.lemmas.Nat.{mod_below}
 use Rattle.card_piles.specs.declared.Card.{Card}
-use Rattle.card_piles.specs.declared.Suit.{Suit}
 use Rattle.game_rules.specs.declared.RuleParts.{RuleParts}
 use Rattle.game_rules.specs.Rules.{is_foundation_goal, is_hole_goal, is_sequence_goal, foundation_rank, deals_to_waste}
 use Rattle.game_rules.specs.Conflicts.{HasLimits}
 use Rattle.game_rules.specs.Board.{Board, Pile, suit_at, foundation_cards}
 use Rattle.game_rules.specs.Play.{is_empty}
-use Rattle.game_rules.specs.Belonging.{Belongs, same_card, holds, copies_of, copies_in, copies_in_piles, copies_at_home, copies_on, copies_due, lies_well}
-use Rattle.game_rules.proofs.FewCards.{sum_by-same}
+use Rattle.game_rules.specs.Belonging.{Belongs, same_card, holds, copies_of, copies_in, copies_in_piles, copies_at_home, copies_on, lies_well}
 use Rattle.same_boards.specs.Same.{Same, keeps_pile_order}
 use Rattle.same_boards.proofs.Renaming.{Renaming, Alike, alike-from_places, Alike-list_all, Renamed-from_permutation}
 use Rattle.same_boards.proofs.SameWins.{alike-heights, alike-slots, foundation_names, foundation_names-suits, slot_names}

@@ -1,6 +1,6 @@
 -- Keys of small boards, worked out by the definition alone.
-use Rattle.std.proofs.Common.{arith, ◌≤◌, ◌+◌, ◌≡◌, ℕ, zero, suc, true, false, [], ◌∷◌, refl}
-use Rattle.std.specs.Prelude.{◌==◌, nat_le, if◌then◌else◌}
+use Rattle.std.proofs.Common.{arith, ◌≡◌, ℕ, zero, suc, true, false, [], ◌∷◌, refl}
+use Rattle.std.specs.Prelude.{◌==◌, nat_le}
 use Rattle.std.proofs.lemmas.Bool.{ne_eqb, le-leb, lt-leb}
 use Rattle.card_piles.specs.declared.Card.{Card}
 use Rattle.card_piles.specs.declared.Suit.{Suit}

@@ -20,15 +20,15 @@ pub fn being_the_same_is_an_equivalence()
 
 /// Boards that are the same win within the same numbers of moves.
 pub fn same_boards_win_alike()
-    ensures within { (rules : RuleParts) (a b : Board) (n : ℕ) → IsPlayable rules → Belongs rules a → Belongs rules b
-        → Same rules a b → Wins rules n a ↔ Wins rules n b }
+    ensures within { (rules : RuleParts) (a b : Board) (n : ℕ) → IsPlayable rules
+        → Belongs rules a → Belongs rules b → Same rules a b → Wins rules n a ↔ Wins rules n b }
 {}
 
 /// Of two boards that are the same, each legal move of one has a legal move of the other, and the boards after them
 /// are the same.
 pub fn same_boards_move_alike()
-    ensures moves { (rules : RuleParts) (a b : Board) (move : Move) → IsPlayable rules → Belongs rules a → Belongs rules b
-        → Same rules a b → Legal rules a move
+    ensures moves { (rules : RuleParts) (a b : Board) (move : Move) → IsPlayable rules
+        → Belongs rules a → Belongs rules b → Same rules a b → Legal rules a move
         → (other : Move) × Legal rules b other × Same rules (after rules a move) (after rules b other) }
 {}
 
