@@ -1,7 +1,7 @@
 -- The first safe move by foundations and places: the card that is next on a foundation and that no card can still need,
 -- from the first place that gives it.
 use Rattle.std.proofs.Common.{inl, inr, ◌≡◌, ℕ, ◌+◌, ◌<◌, ◌≤◌, Bool, true, false, ◌&&◌, ◌||◌, List, [], ◌∷◌, length, refl, ap, sym, ◌∙◌, subst, arith, eq-eqb}
-use Rattle.std.specs.Prelude.{IsTrue, not, Option, Some, None, nat_lt, ◌%◌, ◌==◌, slice_get, if◌then◌else◌}
+use Rattle.std.specs.Prelude.{IsTrue, not, Option, Some, None, MatchOption, nat_lt, ◌%◌, ◌==◌, slice_get, if◌then◌else◌}
 use Rattle.std.specs.List.{list_all}
 use Rattle.std.proofs.lemmas.Bool.{cases_Bool, cond-true, cond-false, eqb-true, ltb-true, lt-ltb, and_from, or_cases}
 use Rattle.std.proofs.lemmas.Bool.Decides.{nat_tests}
@@ -28,7 +28,7 @@ use Rattle.safe_moves.proofs.SafeFacts.{Allowed, allowed, SafeFacts}
 use Rattle.safe_moves.proofs.SafeExchange.{sending_home, no_foundation, one_taken, same_cards}
 use Rattle.safe_moves.proofs.HomePlace.{place-of_suit}
 use Rattle.safe_moves.proofs.FirstSafe.{first_safe-found, first_safe-none}
-use Rattle.safe_foundation.specs.Giving.{next_card, unneeded, free_card, gives, IsFirstPlace}
+use Rattle.safe_foundation.specs.Giving.{next_card, unneeded, free_card, gives, IsFirstPlace, IsFirstGiving, IsFirstOnto}
 
 -- the card that is next
 next-card : (rules : RuleParts) (f height : ℕ) (c : Card) → IsTrue (is_next_on rules f height c) → next_card rules f height ≡ Some c
@@ -214,6 +214,29 @@ first_safe-here rules board f c from allow limits some first here below =
       | Deal ↦ λ safe h. grind (arith, safe)
       | Redeal ↦ λ safe h. grind (arith, safe)
     ])
+
+-- the same by the first place that gives the card which is next
+onto-none_by : (rules : RuleParts) (board : Board) (f : ℕ) (free : Option Card) (found : Option Place) → HasLimits rules
+    → free_card rules board f ≡ free → MatchOption free (found ≡ None) (λ card. IsFirstGiving rules board card found) → found ≡ None
+    → NoSafeOnto rules board f
+onto-none_by rules board f None found limits e h none = no_safe-not_free rules board f limits e
+onto-none_by rules board f (Some c) found limits e h none =
+    no_safe-not_given rules board f c limits e (subst (λ (found : Option Place). IsFirstGiving rules board c found) none h)
+
+pub onto-none : (rules : RuleParts) (board : Board) (f : ℕ) → HasLimits rules → IsFirstOnto rules board f None → NoSafeOnto rules board f
+onto-none rules board f limits h = onto-none_by rules board f (free_card rules board f) None limits refl h refl
+
+onto-some_by : (rules : RuleParts) (board : Board) (f : ℕ) (from : Place) (free : Option Card) → IsTrue (rules_allow rules) → HasLimits rules
+    → free_card rules board f ≡ free → MatchOption free (Some from ≡ None) (λ card. IsFirstGiving rules board card (Some from))
+    → f < length board.heights → ((k : ℕ) → k < f → NoSafeOnto rules board k) → first_safe rules board ≡ Some (Carry from (Foundation f) 1)
+onto-some_by rules board f from None allow limits e h here below = cc
+onto-some_by rules board f from (Some c) allow limits e h here below = first_safe-here rules board f c from allow limits e h here below
+
+pub onto-some : (rules : RuleParts) (board : Board) (f : ℕ) (from : Place) → IsTrue (rules_allow rules) → HasLimits rules
+    → IsFirstOnto rules board f (Some from) → f < length board.heights → ((k : ℕ) → k < f → NoSafeOnto rules board k)
+    → first_safe rules board ≡ Some (Carry from (Foundation f) 1)
+onto-some rules board f from allow limits h here below =
+    onto-some_by rules board f from (free_card rules board f) allow limits refl h here below
 
 -- no safe move
 pub first_safe-nowhere : (rules : RuleParts) (board : Board) → HasLimits rules → ((k : ℕ) → k < length board.heights → NoSafeOnto rules board k)

@@ -42,3 +42,8 @@ pub record IsFirstPlace (rules : RuleParts) (board : Board) (card : Card) (from 
 abbrev pub IsFirstGiving : RuleParts → Board → Card → Option Place → Type 0
 IsFirstGiving rules board card found =
     MatchOption found ((p : Place) → IsTrue (gives_safely p) → gives rules board card p ≡ false) (IsFirstPlace rules board card)
+
+-- the first place that gives the card which a foundation takes next, if that card is not needed
+abbrev pub IsFirstOnto : RuleParts → Board → ℕ → Option Place → Type 0
+IsFirstOnto rules board f found =
+    MatchOption (free_card rules board f) (found ≡ None) (λ card. IsFirstGiving rules board card found)

@@ -76,8 +76,8 @@ pub(crate) fn first_giving<T: Table>(rules: &Rules, table: &T, card: Card) -> Op
     if let Some(i) = first_cell(rules, table, card) {
         return Some(Place::Cell(i));
     }
-    match first_entry(rules, table, card) {
-        Some(i) => Some(Place::Reserve(i)),
-        None => None,
+    if let Some(i) = first_entry(rules, table, card) {
+        return Some(Place::Reserve(i));
     }
+    None
 }
