@@ -1,13 +1,11 @@
 -- What it means that a card is home, and how often a card stands on a board from which it can be taken.
-use Rattle.std.proofs.Common.{inl, inr, ◌≡◌, ℕ, ◌+◌, ◌-◌, ◌<◌, ◌≤◌, suc, zero, Bool, true, false, ◌||◌, cond, List, [], ◌∷◌, map, length, take, drop, refl, ap, sym, ◌∙◌, subst, get_or, arith}
-use Rattle.std.specs.Prelude.{IsTrue, Option, Some, None, nat_lt, ◌==◌, slice_set, if◌then◌else◌}
-use Rattle.std.specs.Option.{option_to_list, unwrap_or}
+use Rattle.std.proofs.Common.{inl, inr, ◌≡◌, ℕ, ◌+◌, ◌-◌, ◌<◌, ◌≤◌, suc, zero, Bool, true, ◌||◌, cond, List, [], ◌∷◌, map, length, refl, ap, sym, ◌∙◌, subst, get_or, arith}
+use Rattle.std.specs.Prelude.{IsTrue, ◌==◌}
 use Rattle.std.specs.List.{list_all, list_any, range_with_len, enumerate_from, count_by, flat_map}
-use Rattle.std.proofs.lemmas.List.{take-append-drop}
 use Rattle.std.proofs.lemmas.List.FromFn.{length-enumerate_from, get_or-enumerate_from}
 use Rattle.std.proofs.lemmas.List.Folds.{list_all-map, list_all-append}
-use Rattle.std.proofs.lemmas.List.Sums.{sum_by-set, sum_by-append, sum_by-cons, get_or-le-sum_by}
-use Rattle.std.proofs.lemmas.Bool.{or_cases, or_left, or_right, eqb-true, ltb-true}
+use Rattle.std.proofs.lemmas.List.Sums.{sum_by-cons, get_or-le-sum_by}
+use Rattle.std.proofs.lemmas.Bool.{or_cases, or_left, or_right, eqb-true}
 use Rattle.std.proofs.lemmas.Bool.Decides.{nat_tests}
 use Rattle.card_piles.specs.declared.Card.{Card}
 use Rattle.card_piles.specs.declared.Suit.{Suit}
@@ -18,9 +16,9 @@ use Rattle.game_rules.specs.declared.Place.{Place}
 use Rattle.game_rules.specs.declared.Place.TheVariants.{Tableau, Cell, Reserve, Waste, Foundation, Hole, Slot}
 use Rattle.game_rules.specs.Rules.{foundation_rank}
 use Rattle.game_rules.specs.Conflicts.{HasLimits}
-use Rattle.game_rules.specs.Board.{Board, entry_at, height_at, has_place, top_of, below_top, suit_at, foundation_card, foundation_cards}
+use Rattle.game_rules.specs.Board.{Board, height_at, has_place, suit_at, foundation_card, foundation_cards}
 use Rattle.game_rules.specs.Taking.{without, can_take, taken}
-use Rattle.game_rules.specs.Belonging.{same_card, holds, copies_of, copies_in, copies_at_home, copies_on}
+use Rattle.game_rules.specs.Belonging.{same_card, copies_of, copies_at_home, copies_on}
 use Rattle.safe_moves.specs.Safe.{is_home, deck_of}
 use Rattle.game_rules.proofs.Limits.{both}
 use Rattle.game_rules.proofs.Copies.{copies-without}

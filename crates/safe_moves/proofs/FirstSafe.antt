@@ -1,13 +1,13 @@
 -- The first of a list in order that passes a test, and the first safe move.
-use Rattle.std.proofs.Common.{inl, inr, ◌≡◌, ℕ, ◌<◌, suc, zero, Bool, true, false, List, [], ◌∷◌, length, refl, ap, sym, ◌∙◌, subst, arith}
-use Rattle.std.specs.Prelude.{IsTrue, Option, Some, None}
+use Rattle.std.proofs.Common.{inl, inr, ◌≡◌, ℕ, suc, Bool, true, List, [], ◌∷◌, refl, ap, sym, ◌∙◌, subst, arith}
+use Rattle.std.specs.Prelude.{IsTrue, Some, None}
 use Rattle.std.specs.List.{find, AllPairs, Contains}
 use Rattle.std.proofs.lemmas.Bool.{cases_Bool, cond-true, cond-false}
 use Rattle.game_rules.specs.declared.RuleParts.{RuleParts}
 use Rattle.game_rules.specs.declared.Move.{Move}
 use Rattle.game_rules.specs.Board.{Board}
 use Rattle.game_rules.specs.Order.{Before, legal_moves}
-use Rattle.game_rules.proofs.MovesListed.{Contains-here, Contains-there, Contains-cases, legal_moves-exact}
+use Rattle.game_rules.proofs.MovesListed.{Contains-there, Contains-cases, legal_moves-exact}
 use Rattle.game_rules.proofs.MovesInOrder.{legal_moves-in_order}
 use Rattle.safe_moves.specs.Safe.{is_safe, first_safe}
 use Rattle.safe_moves.proofs.SafeListed.{legal-from_safe}
@@ -55,13 +55,13 @@ find-first R p [] x pairs here h none = absurd (omega (arith, here.1))
 find-first R p (y ∷ ys) x pairs here h none =
     elim (cases_Bool (p y)) [
       | inl passes ↦ elim (Contains-cases x y ys here) [
-          | inl same ↦ cond-true (p y) (Some y) (find p ys) passes ∙ ap Some same
-          | inr rest ↦ absurd (none y passes (head-before R x y ys pairs rest))
-        ]
+        | inl same ↦ cond-true (p y) (Some y) (find p ys) passes ∙ ap Some same
+        | inr rest ↦ absurd (none y passes (head-before R x y ys pairs rest))
+      ]
       | inr fails ↦ elim (Contains-cases x y ys here) [
-          | inl same ↦ (let e = ap p same in cc)
-          | inr rest ↦ cond-false (p y) (Some y) (find p ys) fails ∙ find-first R p ys x (tail-pairs R y ys pairs) rest h none
-        ]
+        | inl same ↦ (let e = ap p same in cc)
+        | inr rest ↦ cond-false (p y) (Some y) (find p ys) fails ∙ find-first R p ys x (tail-pairs R y ys pairs) rest h none
+      ]
     ]
 
 pub first_safe-found : (rules : RuleParts) (board : Board) (move : Move) → IsTrue (is_safe rules board move)

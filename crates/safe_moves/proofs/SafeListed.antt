@@ -1,14 +1,12 @@
 -- A safe move is legal.
-use Rattle.std.proofs.Common.{◌≡◌, Bool, true, false, ◌&&◌, sym, subst, arith}
+use Rattle.std.proofs.Common.{◌&&◌, arith}
 use Rattle.std.specs.Prelude.{IsTrue, ◌==◌}
-use Rattle.std.specs.List.{list_all}
 use Rattle.game_rules.specs.declared.RuleParts.{RuleParts}
 use Rattle.game_rules.specs.declared.Move.{Move}
 use Rattle.game_rules.specs.declared.Move.TheVariants.{Carry, Deal, Redeal}
 use Rattle.game_rules.specs.Board.{Board}
-use Rattle.game_rules.specs.Taking.{taken}
 use Rattle.game_rules.specs.Play.{Legal, is_legal_move}
-use Rattle.safe_moves.specs.Safe.{rules_allow, is_safe, is_not_needed, gives_safely, is_foundation}
+use Rattle.safe_moves.specs.Safe.{rules_allow, is_safe}
 use Rattle.game_rules.proofs.Limits.{both}
 
 pub legal-from_safe : (rules : RuleParts) (board : Board) (move : Move) → IsTrue (is_safe rules board move) → Legal rules board move
