@@ -157,9 +157,11 @@ safe-gives rules board from f count c limits some safe =
     let sends = sending_home rules board from f count safe in
     let facts = sends.safe limits in
     let free = free-card rules board f sends.c facts.next facts.free in
-    let same : sends.c ≡ c = cc in
-    (facts.gives, subst (λ (c : Card). gives rules board c from ≡ true) same
-    (facts-give rules board sends.c from (record { place = facts.place; takes = facts.takes; card = facts.card })))
+    let same : sends.c ≡ c = cc in (
+      facts.gives,
+      subst (λ (c : Card). gives rules board c from ≡ true) same
+          (facts-give rules board sends.c from (record { place = facts.place; takes = facts.takes; card = facts.card })),
+    )
 
 pub no_safe-not_given : (rules : RuleParts) (board : Board) (f : ℕ) (c : Card) → HasLimits rules → free_card rules board f ≡ Some c
     → ((p : Place) → IsTrue (gives_safely p) → gives rules board c p ≡ false) → NoSafeOnto rules board f
@@ -203,14 +205,14 @@ first_safe-here rules board f c from allow limits some first here below =
     (card-is_free rules board f c some))
     (λ other. elim other as (λ (other : Move). IsTrue (is_safe rules board other) → Before other (Carry from (Foundation f) 1) → ⊥) [
       | Carry p to count ↦ elim to as (λ (to : Place). IsTrue (is_safe rules board (Carry p to count)) → Before (Carry p to count) (Carry from (Foundation f) 1) → ⊥) [
-          | Tableau i ↦ λ safe h. no_foundation _ _ safe
-          | Cell i ↦ λ safe h. no_foundation _ _ safe
-          | Reserve i ↦ λ safe h. no_foundation _ _ safe
-          | Waste ↦ λ safe h. no_foundation _ _ safe
-          | Foundation g ↦ λ safe h. before_it rules board f g count c from p limits some first below safe h
-          | Hole ↦ λ safe h. no_foundation _ _ safe
-          | Slot i ↦ λ safe h. no_foundation _ _ safe
-        ]
+        | Tableau i ↦ λ safe h. no_foundation _ _ safe
+        | Cell i ↦ λ safe h. no_foundation _ _ safe
+        | Reserve i ↦ λ safe h. no_foundation _ _ safe
+        | Waste ↦ λ safe h. no_foundation _ _ safe
+        | Foundation g ↦ λ safe h. before_it rules board f g count c from p limits some first below safe h
+        | Hole ↦ λ safe h. no_foundation _ _ safe
+        | Slot i ↦ λ safe h. no_foundation _ _ safe
+      ]
       | Deal ↦ λ safe h. grind (arith, safe)
       | Redeal ↦ λ safe h. grind (arith, safe)
     ])
@@ -245,14 +247,14 @@ first_safe-nowhere rules board limits none =
     first_safe-none rules board
     (λ move. elim move as (λ (move : Move). IsTrue (is_safe rules board move) → ⊥) [
       | Carry p to count ↦ elim to as (λ (to : Place). IsTrue (is_safe rules board (Carry p to count)) → ⊥) [
-          | Tableau i ↦ λ safe. no_foundation _ _ safe
-          | Cell i ↦ λ safe. no_foundation _ _ safe
-          | Reserve i ↦ λ safe. no_foundation _ _ safe
-          | Waste ↦ λ safe. no_foundation _ _ safe
-          | Foundation f ↦ λ safe. none f (ltb-true f (length board.heights) ((sending_home rules board p f count safe).safe limits).home) p count safe
-          | Hole ↦ λ safe. no_foundation _ _ safe
-          | Slot i ↦ λ safe. no_foundation _ _ safe
-        ]
+        | Tableau i ↦ λ safe. no_foundation _ _ safe
+        | Cell i ↦ λ safe. no_foundation _ _ safe
+        | Reserve i ↦ λ safe. no_foundation _ _ safe
+        | Waste ↦ λ safe. no_foundation _ _ safe
+        | Foundation f ↦ λ safe. none f (ltb-true f (length board.heights) ((sending_home rules board p f count safe).safe limits).home) p count safe
+        | Hole ↦ λ safe. no_foundation _ _ safe
+        | Slot i ↦ λ safe. no_foundation _ _ safe
+      ]
       | Deal ↦ λ safe. grind (arith, safe)
       | Redeal ↦ λ safe. grind (arith, safe)
     ])

@@ -15,7 +15,7 @@ use Rattle.safe_foundation.specs.Giving.{gives, IsLeast, IsFirstPlace}
 
 -- a test that fails below a number and from it on fails
 pub never : (test : ℕ → Bool) (n : ℕ) → ((k : ℕ) → k < n → test k ≡ false) → ((k : ℕ) → n ≤ k → test k ≡ false) → (k : ℕ) → test k ≡ false
-never test n below past k = elim (cases_lt k n) [ | inl lower ↦ below k lower | inr higher ↦ past k higher ]
+never test n below past k = elim (cases_lt k n) [ inl lower ↦ below k lower | inr higher ↦ past k higher ]
 
 -- the places that the board does not have
 past-count : (k n : ℕ) → n ≤ k → nat_lt k n ≡ false

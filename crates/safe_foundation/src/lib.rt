@@ -11,7 +11,6 @@
 
 mod finding;
 mod first;
-
 mod need;
 
 pub use first::{first_safe, first_safe_of};

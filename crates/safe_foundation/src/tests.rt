@@ -196,6 +196,11 @@ fn the_first_safe_move_is_that_of_a_slow_reading(rt: HostRuntime) -> Result<(), 
             }
         }
     }
-    assert!(rt; met.boards > 400 && met.safe > 100, "at {} {}", met.boards, met.safe);
+    assert!(rt;
+        met.boards > 400 && met.safe > 100,
+        "at {} {}",
+        met.boards,
+        met.safe
+    );
     Ok(())
 }
