@@ -1,4 +1,6 @@
 //! Rules and boards of small games.
+ghost use Rattle.game_rules.specs.Belonging.{Belongs};
+
 use crate::{
     Board, BoardFault, BoardParts, Conflict, Face, Goal, Groups, Items, Layout, Part, Redeals,
     RuleParts, Rules, Spaces, Target,
@@ -63,6 +65,30 @@ fn parts(
     })
 }
 
+/// Whether the board has one pile with these cards, and these heights of clubs and diamonds.
+fn shows(rules: &Rules, board: &Board, cards: &[Card], clubs: u8, diamonds: u8) -> bool
+    requires { Belongs rules.now board.now }
+{
+    if rules.piles() != 1 || rules.foundation_count() < 2 {
+        return false;
+    }
+    board.pile(0) == cards && board.height(0) == clubs && board.height(1) == diamonds
+}
+
+#[test]
+fn a_copy_shows_the_same_board(rt: HostRuntime) -> Result<(), Fail> {
+    let alloc = rt.alloc();
+    let rules = rules()?;
+    let ace = Card::new(Suit::Clubs, 1).expect(&rt, "an ace");
+    let two = Card::new(Suit::Clubs, 2).expect(&rt, "a two");
+    let parts = parts(alloc, &[ace, two], &[0, 2, 2, 2], 0)?;
+    let board = Board::new(alloc, &rules, parts)?;
+    let copy = board.duplicate(alloc)?;
+    assert!(rt; shows(&rules, &board, &[ace, two], 0, 2));
+    assert!(rt; shows(&rules, &copy, &[ace, two], 0, 2));
+    Ok(())
+}
+
 #[test]
 fn boards_and_faults(rt: HostRuntime) {
     let rules = rules().ok().expect(&rt, "no conflict");
@@ -71,13 +97,7 @@ fn boards_and_faults(rt: HostRuntime) {
     let right = parts(rt.alloc(), &[ace, two], &[0, 2, 2, 2], 0)
         .ok()
         .expect(&rt, "memory");
-    let board = Board::new(rt.alloc(), &rules, right)
-        .ok()
-        .expect(&rt, "a board");
-    let copy = board.duplicate(rt.alloc()).ok().expect(&rt, "memory");
-    assert!(rt; 0 < rules.piles() && 1 < rules.foundation_count());
-    assert!(rt; copy.pile(0) == board.pile(0) && copy.pile(0) == [ace, two].as_slice());
-    assert!(rt; copy.height(0) == 0 && copy.height(1) == 2);
+    assert!(rt; Board::new(rt.alloc(), &rules, right).is_ok());
     let missing = parts(rt.alloc(), &[ace], &[0, 2, 2, 2], 0)
         .ok()
         .expect(&rt, "memory");
