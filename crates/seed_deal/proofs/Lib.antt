@@ -1,0 +1,4 @@
+pub mod Decks
+pub mod Piles
+pub mod Steps
+pub mod Dealt
