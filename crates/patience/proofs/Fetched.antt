@@ -17,16 +17,16 @@ use Rattle.solver_words.specs.Jobs.{job_of}
 use Rattle.patience.specs.declared.report.Stop.{Stop}
 use Rattle.patience.specs.declared.report.Stop.TheVariants.{Told, NoMemory}
 use Rattle.patience.specs.declared.status.Status.TheVariants.{RulesRefused, DealRefused, LineRefused}
-use Rattle.patience.specs.Causes.{Shelved, Explains, HasRules, HasDeal, HasLine, takes_deal, rules_name, deal_name, line_name, if_built, rules_for}
+use Rattle.patience.specs.Causes.{Shelved, Explains, HasRules, HasDeal, HasLine, takes_deal, rules_name, deal_name, line_name}
 use Rattle.patience.specs.Stages.{Stops, RefusesRules, RefusesDeal, RefusesLine}
 
 -- the bytes that were read are those that were fetched
 pub read_as : (files : Option (List File)) (name read bytes : List ℕ) (limit : ℕ) → read ≡ bytes → Fetches files name limit [] bytes → Fetches files name limit [] read
 read_as files name read bytes limit same fetched = subst (λ b. Fetches files name limit [] b) (sym same) fetched
 
-rules_for-fetched : (files : Option (List File)) (name bytes : List ℕ) (j : Job) (fetched : Fetches files name 65536 [] bytes)
-    → rules_for j fetched.bytes ≡ rules_for j bytes
-rules_for-fetched files name bytes j fetched = ap (if_built j) (sym (ap rules_of fetched.grew ∙ rules_of-take fetched.bytes))
+rules_of-fetched : (files : Option (List File)) (name bytes : List ℕ) (fetched : Fetches files name 65536 [] bytes)
+    → rules_of fetched.bytes ≡ rules_of bytes
+rules_of-fetched files name bytes fetched = sym (ap rules_of fetched.grew ∙ rules_of-take fetched.bytes)
 
 position_of-fetched : (files : Option (List File)) (name bytes : List ℕ) (rules : RuleParts) (fetched : Fetches files name 65536 [] bytes)
     → position_of rules fetched.bytes ≡ position_of rules bytes
@@ -38,13 +38,13 @@ line_of-fetched files name bytes fetched = sym (ap line_of fetched.grew ∙ line
 
 -- the rules that were read are those of the file
 pub has_rules : (files : Option (List File)) (words : List (List ℕ)) (j : Job) (name bytes : List ℕ) (rules : RuleParts)
-    → name ≡ rules_name words → job_of words ≡ Ok j → Fetches files name 65536 [] bytes → rules_for j bytes ≡ Ok rules
+    → name ≡ rules_name words → job_of words ≡ Ok j → Fetches files name 65536 [] bytes → rules_of bytes ≡ Ok rules
     → HasRules files words j rules
 has_rules files words j name bytes rules named job fetched accepted = record {
   named = job;
   bytes = fetched.bytes;
   told = subst (λ n. HasBytes files n fetched.bytes) named fetched.told;
-  accepted = rules_for-fetched files name bytes j fetched ∙ accepted;
+  accepted = rules_of-fetched files name bytes fetched ∙ accepted;
 }
 
 -- the deal that was read is that of the file
@@ -61,7 +61,7 @@ has_deal files words j name bytes rules board named by takes fetched accepted = 
 
 -- what stopped the reading of the rules has its cause in the file
 pub rules-stopped : (shelf : Shelved) (words : List (List ℕ)) (j : Job) (name bytes : List ℕ) (stop : Stop)
-    → name ≡ rules_name words → job_of words ≡ Ok j → Fetches shelf.files name 65536 [] bytes → Stops (RefusesRules j bytes) stop
+    → name ≡ rules_name words → job_of words ≡ Ok j → Fetches shelf.files name 65536 [] bytes → Stops (RefusesRules bytes) stop
     → Stops (Explains shelf words) stop
 rules-stopped shelf words j name bytes NoMemory named job fetched stopped = tt
 rules-stopped shelf words j name bytes (Told report) named job fetched stopped =
@@ -71,7 +71,7 @@ rules-stopped shelf words j name bytes (Told report) named job fetched stopped =
       bytes = fetched.bytes;
       told = subst (λ n. HasBytes shelf.files n fetched.bytes) named fetched.told;
       fault = stopped.0;
-      refused = rules_for-fetched shelf.files name bytes j fetched ∙ stopped.1;
+      refused = rules_of-fetched shelf.files name bytes fetched ∙ stopped.1;
       printed = stopped.3;
     } in
     subst (λ status. Explains shelf words status report.text.items) (sym stopped.2) cause

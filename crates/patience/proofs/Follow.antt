@@ -10,6 +10,8 @@ use Rattle.solver_words.specs.declared.fault.WordFault.{WordFault}
 use Rattle.solver_words.specs.declared.job.Job.{Job}
 use Rattle.solver_words.specs.declared.job.Job.TheVariants as job
 use Rattle.solver_words.specs.Jobs.{job_of}
+use Rattle.rules_json.specs.declared.fault.RulesFault.{RulesFault}
+use Rattle.rules_json.specs.RulesFile.{rules_of}
 use Rattle.deal_reader.specs.declared.fault.DealFault.{DealFault}
 use Rattle.deal_reader.specs.Position.{position_of}
 use Rattle.line_printer.specs.declared.fault.LineFault.{LineFault}
@@ -19,7 +21,7 @@ use Rattle.win_replay.specs.declared.Replayed.TheVariants as replayed
 use Rattle.win_replay.specs.Replays.{IsReplayed}
 use Rattle.patience.specs.declared.status.Status.{Status}
 use Rattle.patience.specs.declared.status.Status.TheVariants.{Done, Usage, ShelfFailed, RulesRefused, DealRefused, LineRefused, SinkFailed, Memory}
-use Rattle.patience.specs.Causes.{Shelved, Explains, rules_name, deal_name, line_name, takes_deal, rules_for, HasRules, HasDeal, HasLine, IsUsage, IsRulesFailure, IsDealFailure, IsLineFailure, IsRulesRefusal, IsDealRefusal, IsBadLine, IsIllegalLine, IsShortLine, IsSolved, IsWinningLine, IsSpelled}
+use Rattle.patience.specs.Causes.{Shelved, Explains, rules_name, deal_name, line_name, takes_deal, HasRules, HasDeal, HasLine, IsUsage, IsRulesFailure, IsDealFailure, IsLineFailure, IsRulesRefusal, IsDealRefusal, IsBadLine, IsIllegalLine, IsShortLine, IsSolved, IsWinningLine, IsSpelled}
 use Rattle.patience.specs.Answers.{Gives, GivesRules, GivesDeal, Follows}
 use Rattle.patience.proofs.Replay.{wins-not_short, wins-not_illegal}
 
@@ -44,25 +46,23 @@ module _ (shelf : Shelved) (words : List (List ℕ)) where
   same_rules a b rules other gives has =
       let job : a ≡ b = one_ok (job_of words) a b gives.named has.named in
       let bytes : gives.bytes ≡ has.bytes = one_file shelf.files (rules_name words) gives.bytes has.bytes gives.given.tells has.told in
-      let read : rules_for a gives.bytes ≡ Ok other = ap (λ j. rules_for j gives.bytes) job ∙ ap (rules_for b) bytes ∙ has.accepted in
-      (job, one_ok (rules_for a gives.bytes) rules other gives.accepted read)
+      let read : rules_of gives.bytes ≡ Ok other = ap rules_of bytes ∙ has.accepted in
+      (job, one_ok (rules_of gives.bytes) rules other gives.accepted read)
 
   -- rules that the shelf gives were not refused
   rules_stand : {C : Type 0} (a : Job) (rules : RuleParts) (text : List ℕ) → GivesRules shelf words a rules → IsRulesRefusal shelf.files words text → C
   rules_stand a rules text gives refusal =
-      let job : a ≡ refusal.job = one_ok (job_of words) a refusal.job gives.named refusal.named in
       let bytes : gives.bytes ≡ refusal.bytes = one_file shelf.files (rules_name words) gives.bytes refusal.bytes gives.given.tells refusal.told in
-      let read : rules_for a gives.bytes ≡ Err refusal.fault = ap (λ j. rules_for j gives.bytes) job ∙ ap (rules_for refusal.job) bytes ∙ refusal.refused in
-      no_both (rules_for a gives.bytes) rules refusal.fault gives.accepted read
+      let read : rules_of gives.bytes ≡ Err refusal.fault = ap rules_of bytes ∙ refusal.refused in
+      no_both (rules_of gives.bytes) rules refusal.fault gives.accepted read
 
   -- rules that are refused were not read
-  rules_fall : {C : Type 0} (a b : Job) (bytes fault : List ℕ) (rules : RuleParts) → job_of words ≡ Ok a → Gives shelf (rules_name words) bytes
-      → rules_for a bytes ≡ Err fault → HasRules shelf.files words b rules → C
-  rules_fall a b bytes fault rules named gives refused has =
-      let job : a ≡ b = one_ok (job_of words) a b named has.named in
+  rules_fall : {C : Type 0} (b : Job) (bytes : List ℕ) (fault : RulesFault) (rules : RuleParts) → Gives shelf (rules_name words) bytes
+      → rules_of bytes ≡ Err fault → HasRules shelf.files words b rules → C
+  rules_fall b bytes fault rules gives refused has =
       let same : bytes ≡ has.bytes = one_file shelf.files (rules_name words) bytes has.bytes gives.tells has.told in
-      let read : rules_for a bytes ≡ Ok rules = ap (λ j. rules_for j bytes) job ∙ ap (rules_for b) same ∙ has.accepted in
-      no_both (rules_for a bytes) rules fault read refused
+      let read : rules_of bytes ≡ Ok rules = ap rules_of same ∙ has.accepted in
+      no_both (rules_of bytes) rules fault read refused
 
   -- a job with a deal is not one without
   takes_or_not : {C : Type 0} (a b : Job) → IsTrue (takes_deal a) → takes_deal b ≡ false → a ≡ b → C
@@ -168,21 +168,21 @@ module _ (shelf : Shelved) (words : List (List ℕ)) where
       (λ x. no_both (job_of words) job.Rules fault x.has_rules.named no_job)
 
   -- the rules are refused
-  rules_refused_is : (text : List ℕ) (j : Job) (bytes fault : List ℕ) → job_of words ≡ Ok j → Gives shelf (rules_name words) bytes
-      → rules_for j bytes ≡ Err fault → (status : Status) → Explains shelf words status text → status ≡ RulesRefused
+  rules_refused_is : (text : List ℕ) (j : Job) (bytes : List ℕ) (fault : RulesFault) → job_of words ≡ Ok j → Gives shelf (rules_name words) bytes
+      → rules_of bytes ≡ Err fault → (status : Status) → Explains shelf words status text → status ≡ RulesRefused
   rules_refused_is text j bytes fault named gives refused = by_cause (λ s. s ≡ RulesRefused) text
       (λ x. no_both (job_of words) j x.fault named x.names_no_job)
       (λ x. absurd (gives.calm x.rose))
       (λ x. refl)
-      (λ x. rules_fall j x.job bytes fault x.rules named gives refused x.has_rules)
-      (λ x. rules_fall j x.job bytes fault x.rules named gives refused x.has_rules)
-      (λ x. rules_fall j job.Replay bytes fault x.rules named gives refused x.has_deal.has_rules)
-      (λ x. rules_fall j job.Replay bytes fault x.rules named gives refused x.has_deal.has_rules)
-      (λ x. rules_fall j job.Replay bytes fault x.rules named gives refused x.has_line.has_deal.has_rules)
-      (λ x. rules_fall j job.Replay bytes fault x.rules named gives refused x.has_line.has_deal.has_rules)
-      (λ x. rules_fall j (job.Solve x.cache x.nodes) bytes fault x.rules named gives refused x.has_deal.has_rules)
-      (λ x. rules_fall j job.Replay bytes fault x.rules named gives refused x.has_line.has_deal.has_rules)
-      (λ x. rules_fall j job.Rules bytes fault x.rules named gives refused x.has_rules)
+      (λ x. rules_fall x.job bytes fault x.rules gives refused x.has_rules)
+      (λ x. rules_fall x.job bytes fault x.rules gives refused x.has_rules)
+      (λ x. rules_fall job.Replay bytes fault x.rules gives refused x.has_deal.has_rules)
+      (λ x. rules_fall job.Replay bytes fault x.rules gives refused x.has_deal.has_rules)
+      (λ x. rules_fall job.Replay bytes fault x.rules gives refused x.has_line.has_deal.has_rules)
+      (λ x. rules_fall job.Replay bytes fault x.rules gives refused x.has_line.has_deal.has_rules)
+      (λ x. rules_fall (job.Solve x.cache x.nodes) bytes fault x.rules gives refused x.has_deal.has_rules)
+      (λ x. rules_fall job.Replay bytes fault x.rules gives refused x.has_line.has_deal.has_rules)
+      (λ x. rules_fall job.Rules bytes fault x.rules gives refused x.has_rules)
 
   -- the deal is refused
   deal_refused_is : (text : List ℕ) (j : Job) (rules : RuleParts) (bytes : List ℕ) (fault : DealFault) → GivesRules shelf words j rules

@@ -10,6 +10,8 @@ use Rattle.solver_words.specs.declared.fault.WordFault.{WordFault}
 use Rattle.solver_words.specs.declared.job.Job.{Job}
 use Rattle.solver_words.specs.declared.job.Job.TheVariants as job
 use Rattle.solver_words.specs.Jobs.{job_of}
+use Rattle.rules_json.specs.declared.fault.RulesFault.{RulesFault}
+use Rattle.rules_json.specs.RulesFile.{rules_of}
 use Rattle.deal_reader.specs.declared.fault.DealFault.{DealFault}
 use Rattle.deal_reader.specs.Position.{position_of}
 use Rattle.line_printer.specs.declared.fault.LineFault.{LineFault}
@@ -18,7 +20,7 @@ use Rattle.win_replay.specs.declared.Replayed.TheVariants as replayed
 use Rattle.win_replay.specs.Replays.{IsReplayed}
 use Rattle.patience.specs.declared.status.Status.{Status}
 use Rattle.patience.specs.declared.status.Status.TheVariants.{Done, Usage, RulesRefused, DealRefused, LineRefused, SinkFailed, Memory}
-use Rattle.patience.specs.Causes.{Shelved, Fails, rules_name, deal_name, line_name, takes_deal, rules_for}
+use Rattle.patience.specs.Causes.{Shelved, Fails, rules_name, deal_name, line_name, takes_deal}
 
 -- A status other than SinkFailed and Memory comes with a text that it explains, and this text alone was written.
 abbrev pub WritesWhole : (Status → List ℕ → Type 0) → Option (List ℕ) → Option (List ℕ) → Status → Type 0
@@ -39,12 +41,12 @@ pub record Gives (shelf : Shelved) (name bytes : List ℕ) : Type 0 where
   pub tells : Tells shelf.files name bytes
   pub calm : ¬ Fails shelf name
 
--- the shelf gives a rules file that the job accepts
+-- the words name the job, and the shelf gives an accepted rules file
 pub record GivesRules (shelf : Shelved) (words : List (List ℕ)) (job : Job) (rules : RuleParts) : Type 0 where
   pub named : job_of words ≡ Ok job
   pub bytes : List ℕ
   pub given : Gives shelf (rules_name words) bytes
-  pub accepted : rules_for job bytes ≡ Ok rules
+  pub accepted : rules_of bytes ≡ Ok rules
 
 -- the shelf gives a deal besides
 pub record GivesDeal (shelf : Shelved) (words : List (List ℕ)) (job : Job) (rules : RuleParts) (board : Board) : Type 0 where
@@ -57,8 +59,8 @@ pub record GivesDeal (shelf : Shelved) (words : List (List ℕ)) (job : Job) (ru
 -- what must be answered to the words, and to the files that the shelf gives
 pub record Follows (shelf : Shelved) (words : List (List ℕ)) (result : Status) : Type 0 where
   pub usage : (fault : WordFault) → job_of words ≡ Err fault → Yields Usage result
-  pub rules_refused : (job : Job) (bytes fault : List ℕ) → job_of words ≡ Ok job → Gives shelf (rules_name words) bytes
-      → rules_for job bytes ≡ Err fault → Yields RulesRefused result
+  pub rules_refused : (job : Job) (bytes : List ℕ) (fault : RulesFault) → job_of words ≡ Ok job → Gives shelf (rules_name words) bytes
+      → rules_of bytes ≡ Err fault → Yields RulesRefused result
   pub deal_refused : (job : Job) (rules : RuleParts) (bytes : List ℕ) (fault : DealFault) → GivesRules shelf words job rules
       → IsTrue (takes_deal job) → Gives shelf (deal_name words) bytes → position_of rules bytes ≡ Err fault → Yields DealRefused result
   pub bad_line : (rules : RuleParts) (board : Board) (bytes : List ℕ) (fault : LineFault) → GivesDeal shelf words job.Replay rules board

@@ -1,11 +1,10 @@
 -- Each status and text that the program may answer, with its cause in the words and in the files.
-use Rattle.std.specs.Prelude.{ℕ, ◌≡◌, ◌==◌, ◌&&◌, ◌⊎◌, min, not, IsTrue, Bool, true, false, List, [], length, slice_index_or, Option, Result, Ok, Err, if◌then◌else◌}
+use Rattle.std.specs.Prelude.{ℕ, ◌≡◌, ◌⊎◌, min, IsTrue, Bool, true, false, List, [], length, slice_index_or, Option, Ok, Err}
 use Rattle.outside_io.specs.Faults.{Rose}
 use Rattle.outside_io.specs.Shelf.{File, HasBytes}
 use Rattle.game_rules.specs.declared.RuleParts.{RuleParts}
 use Rattle.game_rules.specs.declared.Move.{Move}
 use Rattle.game_rules.specs.Board.{Board}
-use Rattle.game_rules.specs.Rules.{is_sequence_goal, takes_complete_runs}
 use Rattle.solver_words.specs.declared.fault.WordFault.{WordFault}
 use Rattle.solver_words.specs.declared.job.Job.{Job}
 use Rattle.solver_words.specs.declared.job.Job.TheVariants as job
@@ -29,7 +28,7 @@ use Rattle.solve_job.specs.Verdicts.{IsVerdict, IsDecided, IsSmall}
 use Rattle.patience.specs.declared.report.FileRole.TheVariants as role
 use Rattle.patience.specs.declared.status.Status.{Status}
 use Rattle.patience.specs.declared.status.Status.TheVariants.{Done, Usage, ShelfFailed, RulesRefused, DealRefused, LineRefused, SinkFailed, Memory}
-use Rattle.patience.specs.Texts.{line, failed_text, words_text, refused_text, ends_short_text, illegal_text, wins_text, not_built_text}
+use Rattle.patience.specs.Texts.{line, failed_text, words_text, refused_text, ends_short_text, illegal_text, wins_text}
 
 -- what the shelf told, and how its counts of faults stood before and after
 pub record Shelved : Type 0 where
@@ -57,31 +56,12 @@ takes_deal (job.Solve cache nodes) = true
 takes_deal job.Replay = true
 takes_deal job.Rules = false
 
--- whether the game can be solved, and a line of it replayed: it has no stock, no sequences and no complete runs
-abbrev pub is_built : RuleParts → Bool
-is_built rules = (rules.stock == 0) && not (is_sequence_goal rules.goal) && not (takes_complete_runs rules.goal)
-
--- whether the job is built for games by these rules
-abbrev pub is_built_for : Job → RuleParts → Bool
-is_built_for (job.Solve cache nodes) rules = is_built rules
-is_built_for job.Replay rules = is_built rules
-is_built_for job.Rules rules = true
-
--- rules that were read are for the job where their game is built
-abbrev pub if_built : Job → Result RuleParts RulesFault → Result RuleParts (List ℕ)
-if_built job (Ok rules) = if is_built_for job rules then Ok rules else Err not_built_text
-if_built job (Err fault) = Err (rules_fault_text fault)
-
--- the rules that a file gives to the job, or the fault that refuses it
-abbrev pub rules_for : Job → List ℕ → Result RuleParts (List ℕ)
-rules_for job bytes = if_built job (rules_of bytes)
-
 -- the words name the job, and the rules file gives these rules
 pub record HasRules (files : Option (List File)) (words : List (List ℕ)) (job : Job) (rules : RuleParts) : Type 0 where
   pub named : job_of words ≡ Ok job
   pub bytes : List ℕ
   pub told : HasBytes files (rules_name words) bytes
-  pub accepted : rules_for job bytes ≡ Ok rules
+  pub accepted : rules_of bytes ≡ Ok rules
 
 -- the deal file gives this board besides
 pub record HasDeal (files : Option (List File)) (words : List (List ℕ)) (job : Job) (rules : RuleParts) (board : Board) : Type 0 where
@@ -134,9 +114,9 @@ pub record IsRulesRefusal (files : Option (List File)) (words : List (List ℕ))
   pub named : job_of words ≡ Ok job
   pub bytes : List ℕ
   pub told : HasBytes files (rules_name words) bytes
-  pub fault : List ℕ
-  pub refused : rules_for job bytes ≡ Err fault
-  pub printed : text ≡ refused_text role.Rules fault
+  pub fault : RulesFault
+  pub refused : rules_of bytes ≡ Err fault
+  pub printed : text ≡ refused_text role.Rules (rules_fault_text fault)
 
 -- the deal file has the printed fault
 pub record IsDealRefusal (files : Option (List File)) (words : List (List ℕ)) (text : List ℕ) : Type 0 where

@@ -8,14 +8,15 @@ use Rattle.line_printer.specs.declared.fault.LineFault.{LineFault}
 use Rattle.line_printer.specs.FaultText.{line_fault_text}
 use Rattle.line_printer.specs.LineFile.{line_of}
 use Rattle.outside_io.specs.Faults.{Rose}
-use Rattle.solver_words.specs.declared.job.Job.{Job}
+use Rattle.rules_json.specs.declared.fault.RulesFault.{RulesFault}
+use Rattle.rules_json.specs.Faults.{rules_fault_text}
+use Rattle.rules_json.specs.RulesFile.{rules_of}
 use Rattle.patience.specs.declared.report.FileRole.{FileRole}
 use Rattle.patience.specs.declared.report.FileRole.TheVariants as role
 use Rattle.patience.specs.declared.report.Stop.{Stop}
 use Rattle.patience.specs.declared.report.Stop.TheVariants.{Told, NoMemory}
 use Rattle.patience.specs.declared.status.Status.{Status}
 use Rattle.patience.specs.declared.status.Status.TheVariants.{ShelfFailed, RulesRefused, DealRefused, LineRefused}
-use Rattle.patience.specs.Causes.{rules_for}
 use Rattle.patience.specs.Texts.{failed_text, refused_text}
 
 -- a stop that tells a status and a text has their cause
@@ -28,9 +29,9 @@ abbrev pub IsFailure : FileRole → ℕ → ℕ → Status → List ℕ → Type
 IsFailure file before after status text = (status ≡ ShelfFailed) × (text ≡ failed_text file) × Rose before after
 
 -- the rules file has the printed fault
-abbrev pub RefusesRules : Job → List ℕ → Status → List ℕ → Type 0
-RefusesRules job bytes status text =
-    (fault : List ℕ) × (rules_for job bytes ≡ Err fault) × (status ≡ RulesRefused) × (text ≡ refused_text role.Rules fault)
+abbrev pub RefusesRules : List ℕ → Status → List ℕ → Type 0
+RefusesRules bytes status text =
+    (fault : RulesFault) × (rules_of bytes ≡ Err fault) × (status ≡ RulesRefused) × (text ≡ refused_text role.Rules (rules_fault_text fault))
 
 -- the deal file has the printed fault
 abbrev pub RefusesDeal : RuleParts → List ℕ → Status → List ℕ → Type 0

@@ -54,7 +54,3 @@ illegal_text at = codes "illegal " ++ decimal at
 -- the line of moves wins
 abbrev pub wins_text : ℕ → List ℕ
 wins_text moves = line (codes "wins") ++ line (codes "moves " ++ decimal moves)
-
--- the rules of a game are not built yet
-abbrev pub not_built_text : List ℕ
-not_built_text = codes "not-built"

@@ -5,10 +5,11 @@ ghost use Rattle.game_rules.specs.Belonging.{Belongs};
 ghost use Rattle.deal_reader.specs.Position.{position_of};
 ghost use Rattle.line_printer.specs.LineFile.{line_of};
 ghost use Rattle.rules_json.specs.Faults.{rules_fault_text};
+ghost use Rattle.rules_json.specs.RulesFile.{rules_of};
 ghost use Rattle.patience.specs.Texts.{refused_text};
 ghost use Rattle.solver_words.specs.Jobs.{job_of};
 ghost use Rattle.solver_words.specs.Texts.{texts};
-ghost use Rattle.patience.specs.Causes.{Explains, HasRules, HasDeal, HasLine, is_built_for as is_built_for_of, is_built as is_built_of, takes_deal, rules_for};
+ghost use Rattle.patience.specs.Causes.{Explains, HasRules, HasDeal, HasLine, takes_deal};
 ghost use Rattle.patience.specs.Stages.{Stops, IsFailure, RefusesRules, RefusesDeal, RefusesLine};
 
 use crate::report::{FileRole, Stop};
@@ -16,7 +17,6 @@ use crate::status::Status;
 use crate::texts;
 use deal_reader::{DealFault, read_position};
 use game_model::{Board, Rules};
-use game_rules::Goal;
 use legal_moves::Line;
 use line_printer::{LineFault, read_line};
 use outside_io::{Shelf, ShelfFault};
@@ -64,23 +64,6 @@ fn fetch_file<S: Shelf>(
     }
 }
 
-/// Whether the game can be solved, and a line of it replayed.
-fn is_built(rules: &Rules) -> bool
-    ensures { result ≡ is_built_of rules.now }
-{
-    rules.stock() == 0 && !matches!(rules.goal(), Goal::Sequences) && !rules.takes_complete_runs()
-}
-
-/// Whether the job is built for games by these rules.
-fn is_built_for(job: Job, rules: &Rules) -> bool
-    ensures { result ≡ is_built_for_of job rules.now }
-{
-    match job {
-        Job::Solve { .. } | Job::Replay => is_built(rules),
-        Job::Rules => true,
-    }
-}
-
 /// What a fault of the rules file is answered by.
 fn stop_of_rules_fault(alloc: Global, fault: RulesFault) -> Stop
     ensures { Stops (λ status text. (fault ≢ RulesFault.Memory) × (status ≡ Status.RulesRefused) × (text ≡ refused_text FileRole.Rules (rules_fault_text fault))) result }
@@ -94,20 +77,15 @@ fn stop_of_rules_fault(alloc: Global, fault: RulesFault) -> Stop
     }
 }
 
-/// The rules that a file gives to the job.
-fn rules_of_bytes(alloc: Global, job: Job, bytes: &[u8]) -> Result<Rules, Stop>
-    ensures accepted { IfOk result (λ rules. rules_for job bytes.now ≡ Ok rules) }
-    ensures refused { IfErr result (Stops (RefusesRules job bytes.now)) }
+/// The rules that a file gives.
+fn rules_of_bytes(alloc: Global, bytes: &[u8]) -> Result<Rules, Stop>
+    ensures accepted { IfOk result (λ rules. rules_of bytes.now ≡ Ok rules) }
+    ensures refused { IfErr result (Stops (RefusesRules bytes.now)) }
 {
-    let rules = match read_rules(alloc, bytes) {
-        Ok(rules) => rules,
-        Err(fault) => return Err(stop_of_rules_fault(alloc, fault)),
-    };
-    if is_built_for(job, &rules) {
-        return Ok(rules);
+    match read_rules(alloc, bytes) {
+        Ok(rules) => Ok(rules),
+        Err(fault) => Err(stop_of_rules_fault(alloc, fault)),
     }
-    let report = texts::not_built(alloc)?;
-    Err(Stop::Told(report))
 }
 
 /// The board that a deal file gives.
@@ -157,7 +135,7 @@ pub fn fetch_rules<S: Shelf>(
 {
     let name = word_at(words, 1);
     let bytes = fetch_file(alloc, shelf, name, MAX_FILE_LENGTH, FileRole::Rules)?;
-    rules_of_bytes(alloc, job, &bytes)
+    rules_of_bytes(alloc, &bytes)
 }
 
 /// The deal of the job.

@@ -9,7 +9,7 @@ pub enum Status {
     Usage,
     /// A file could not be fetched.
     ShelfFailed,
-    /// The rules file has a fault, or its game is not built.
+    /// The rules file has a fault.
     RulesRefused,
     /// The deal file has a fault.
     DealRefused,

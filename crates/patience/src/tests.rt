@@ -35,10 +35,6 @@ pub fn words(alloc: Global, text: &str) -> Result<Vec<String>, AllocError> {
     Ok(words)
 }
 
-/// Runs of one suit, which leave the tableau whole.
-const COMPLETE_RUNS: &[u8] =
-    b"{\"tableau\":{\"build\":\"same-suit\",\"groups\":\"run\"},\"foundations\":{\"complete runs\":true}}";
-
 fn shelf(alloc: Global) -> Result<MemoryShelf, Fail> {
     let mut shelf = MemoryShelf::new(alloc);
     shelf.add("rules", RULES)?;
@@ -52,9 +48,6 @@ fn shelf(alloc: Global) -> Result<MemoryShelf, Fail> {
         "twice",
         b"{\"tableau\":[[\"AC\",\"2C\"],[\"AD\",\"2D\"],[\"AH\",\"2H\"],[\"AS\"]],\"hole\":[\"AS\"]}",
     )?;
-    shelf.add("stock", b"{\"stock\":{\"size\":1}}")?;
-    shelf.add("rows", b"{\"sequences\":{}}")?;
-    shelf.add("suits", COMPLETE_RUNS)?;
     shelf.add("won", WON.as_bytes())?;
     shelf.add("line", b"t0 t1 1\nt0 f0\nt1 f0\n")?;
     shelf.add("short", b"t0 t1 1\n")?;
@@ -66,7 +59,7 @@ fn shelf(alloc: Global) -> Result<MemoryShelf, Fail> {
 #[test]
 fn verdicts_and_refusals(rt: HostRuntime) -> Result<(), Fail> {
     let alloc = rt.alloc();
-    let rows: [(&str, &str, Status); 21] = [
+    let rows: [(&str, &str, Status); 15] = [
         ("solve rules deal", WON, Status::Done),
         (
             "solve three dead",
@@ -97,21 +90,6 @@ fn verdicts_and_refusals(rt: HostRuntime) -> Result<(), Fail> {
             Status::RulesRefused,
         ),
         (
-            "solve stock deal",
-            "refused rules not-built\n",
-            Status::RulesRefused,
-        ),
-        (
-            "solve rows deal",
-            "refused rules not-built\n",
-            Status::RulesRefused,
-        ),
-        (
-            "solve suits deal",
-            "refused rules not-built\n",
-            Status::RulesRefused,
-        ),
-        (
             "solve rules twice",
             "refused deal missing-card 2S\n",
             Status::DealRefused,
@@ -132,21 +110,6 @@ fn verdicts_and_refusals(rt: HostRuntime) -> Result<(), Fail> {
             "replay rules deal astray",
             "refused line illegal 3\n",
             Status::LineRefused,
-        ),
-        (
-            "replay stock deal won",
-            "refused rules not-built\n",
-            Status::RulesRefused,
-        ),
-        (
-            "replay rows deal won",
-            "refused rules not-built\n",
-            Status::RulesRefused,
-        ),
-        (
-            "replay suits deal won",
-            "refused rules not-built\n",
-            Status::RulesRefused,
         ),
     ];
     for (text, written, expected) in rows {

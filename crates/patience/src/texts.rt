@@ -4,7 +4,7 @@ ghost use Rattle.deal_reader.specs.FaultText.{deal_fault_text};
 ghost use Rattle.line_printer.specs.FaultText.{line_fault_text};
 ghost use Rattle.rules_json.specs.Faults.{rules_fault_text};
 ghost use Rattle.solver_words.specs.FaultText.{word_fault_text};
-ghost use Rattle.patience.specs.Texts.{words_text, failed_text, refused_text, not_built_text, illegal_text, ends_short_text, wins_text};
+ghost use Rattle.patience.specs.Texts.{words_text, failed_text, refused_text, illegal_text, ends_short_text, wins_text};
 
 use crate::report::{FileRole, Report};
 use crate::status::Status;
@@ -44,17 +44,6 @@ pub fn rules_refused(alloc: Global, fault: RulesFault) -> Result<Report, AllocEr
     Ok(Report {
         status: Status::RulesRefused,
         text: text.into_bytes(),
-    })
-}
-
-/// The game of the rules is not built.
-pub fn not_built(alloc: Global) -> Result<Report, AllocError>
-    ensures { IfOk result (λ report. (report.status ≡ Status.RulesRefused) × (report.text.items ≡ refused_text FileRole.Rules not_built_text)) }
-{
-    let text = b"refused rules not-built\n".to_vec(alloc)?;
-    Ok(Report {
-        status: Status::RulesRefused,
-        text,
     })
 }
 
