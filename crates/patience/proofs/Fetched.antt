@@ -1,7 +1,7 @@
 -- What was fetched of a file says what the file says.
 use Rattle.std.proofs.Common.{◌≡◌, ℕ, List, [], Ok, ap, sym, ◌∙◌, IsTrue, subst, inl, inr}
 use Rattle.std.specs.declared.option.Option.{Option}
-use Rattle.std.specs.declared.option.Option.TheVariants.{Some}
+use Rattle.std.specs.declared.option.Option.TheVariants.{Some, None}
 use Rattle.game_rules.specs.declared.RuleParts.{RuleParts}
 use Rattle.game_rules.specs.declared.Move.{Move}
 use Rattle.game_rules.specs.Board.{Board}
@@ -14,11 +14,14 @@ use Rattle.rules_json.specs.RulesFile.{rules_of}
 use Rattle.rules_json.proofs.Reading.{rules_of-take}
 use Rattle.solver_words.specs.declared.job.Job.{Job}
 use Rattle.solver_words.specs.declared.job.Job.TheVariants as job
+use Rattle.solver_words.specs.declared.job.Source.{Source}
+use Rattle.solver_words.specs.declared.job.Source.TheVariants as source
+use Rattle.seed_deal.specs.Seeds.{seed_board, seed_fault}
 use Rattle.solver_words.specs.Jobs.{job_of}
 use Rattle.patience.specs.declared.report.Stop.{Stop}
 use Rattle.patience.specs.declared.report.Stop.TheVariants.{Told, NoMemory}
 use Rattle.patience.specs.declared.status.Status.TheVariants.{RulesRefused, DealRefused, LineRefused}
-use Rattle.patience.specs.Causes.{Shelved, Explains, HasRules, HasDeal, HasLine, takes_deal, seed_of, rules_name, deal_name, line_name}
+use Rattle.patience.specs.Causes.{Shelved, Explains, HasRules, HasDeal, HasStart, HasLine, takes_deal, seed_of, rules_name, deal_name, line_name}
 use Rattle.patience.specs.Stages.{Stops, RefusesRules, RefusesDeal, RefusesSeed, RefusesLine}
 
 -- the bytes that were read are those that were fetched
@@ -95,6 +98,18 @@ deal-stopped shelf words j name bytes rules (Told report) named by takes fetched
       printed = stopped.3;
     }) in
     subst (λ status. Explains shelf words status report.text.items) (sym stopped.2) cause
+
+-- the board of a seed is that of the rules
+pub has_dealt : (files : Option (List File)) (words : List (List ℕ)) (from : Source) (seed cache nodes : ℕ) (rules : RuleParts) (board : Board)
+    → from ≡ source.FromSeed seed → HasRules files words (job.Solve from cache nodes) rules → seed_fault rules ≡ None → board ≡ seed_board rules seed
+    → HasStart files words (job.Solve from cache nodes) rules board
+has_dealt files words from seed cache nodes rules board is by fits dealt = inr (record {
+  has_rules = by;
+  seed = seed;
+  given = ap (λ (s : Source). seed_of (job.Solve s cache nodes)) is;
+  fits = fits;
+  dealt = dealt;
+})
 
 -- what stopped the deal of a seed has its cause in the rules
 pub seed-stopped : (shelf : Shelved) (words : List (List ℕ)) (j : Job) (rules : RuleParts) (seed : ℕ) (stop : Stop)

@@ -50,15 +50,13 @@ pub fn fetch_start<S: Shelf>(
     ensures stopped { IfErr result (Stops (Explains
         (record { files = S.files shelf.old; before = S.faults shelf.old; after = S.faults shelf.new }) (texts words.now))) }
 {
+    let job = Job::Solve {
+        source,
+        cache: limits.cache,
+        nodes: limits.nodes,
+    };
     match source {
-        Source::File => {
-            let job = Job::Solve {
-                source: Source::File,
-                cache: limits.cache,
-                nodes: limits.nodes,
-            };
-            fetch_deal(alloc, words, job, rules, shelf)
-        }
+        Source::File => fetch_deal(alloc, words, job, rules, shelf),
         Source::FromSeed(seed) => deal_seed(alloc, rules, seed),
     }
 }

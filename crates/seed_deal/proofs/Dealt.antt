@@ -33,7 +33,7 @@ use Rattle.seed_deal.specs.Layout.{after_foundations, after_hole, after_cells, a
 use Rattle.seed_deal.specs.Seeds.{cards_in_decks, cards_needed, cards_of_triangle, seed_fault}
 use Rattle.seed_deal.specs.Starts.{HasStart}
 use Rattle.seed_deal.proofs.Decks.{IsDeck, in_range, in_range-yes}
-use Rattle.seed_deal.proofs.Piles.{length-piles_laid, sum-piles_laid}
+use Rattle.seed_deal.proofs.Laying.{length-piles_laid, sum-piles_laid}
 use Rattle.seed_deal.proofs.Steps.{staying-none, staying-all, length-staying, home-none, home-started, HasNamed, copies-hole, length-beside_hole, copies-entries, copies-filled, all-entries, slots-aces, slots-others}
 
 -- What playable rules say of a layout.
@@ -105,9 +105,9 @@ named_there rules deck (Hole wrap (Named card)) some deals start above =
 named_there rules deck Sequences some deals start above = tt
 
 none_named : (goal : Goal) (cards : List Card) → is_hole_goal goal ≡ false → HasNamed goal cards
-none_named (Foundations base started take_back complete_runs) cards no = tt
-none_named (Hole wrap start) cards no = absurd (let wrong : true ≡ false = no in cc)
-none_named Sequences cards no = tt
+none_named (Foundations base started take_back complete_runs) cards plain = tt
+none_named (Hole wrap start) cards plain = absurd (let wrong : true ≡ false = plain in cc)
+none_named Sequences cards plain = tt
 
 named_left : (rules : RuleParts) (deck : List Card) (started : Bool) → is_started rules.goal ≡ started → HasNamed rules.goal deck
     → HasNamed rules.goal (if started then filter (λ c. not (c.rank == base_of rules.goal)) deck else deck)
@@ -365,8 +365,8 @@ laid_in_rows-belongs rules deck playable deals on =
 
 -- either way
 choose : (rules : RuleParts) (t : Bool) (a b : Board) → (t ≡ true → Belongs rules a) → (t ≡ false → Belongs rules b) → Belongs rules (if t then a else b)
-choose rules true a b yes no = yes refl
-choose rules false a b yes no = no refl
+choose rules true a b of_rows of_piles = of_rows refl
+choose rules false a b of_rows of_piles = of_piles refl
 
 pub board_of_deck-belongs : (rules : RuleParts) (deck : List Card) → IsPlayable rules → IsDeck rules deck → HasStart rules.goal → seed_fault rules ≡ None
     → Belongs rules (board_of_deck rules deck)

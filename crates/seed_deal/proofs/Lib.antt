@@ -1,4 +1,5 @@
 pub mod Decks
-pub mod Piles
+pub mod Laying
 pub mod Steps
 pub mod Dealt
+pub mod Shuffling

@@ -1,6 +1,5 @@
 //! From a seed to a board.
-ghost use Rattle.std.specs.Prelude.{◌≡◌, ◌⊎◌, ◌≤◌, length, Some, None, IfOk, IfErr};
-ghost use Rattle.std.specs.List.{IsPermutation};
+ghost use Rattle.std.specs.Prelude.{IsPermutation, ◌≡◌, ◌⊎◌, ◌≤◌, length, Some, None, IfOk, IfErr};
 ghost use Rattle.game_rules.specs.Belonging.{Belongs};
 ghost use Rattle.seed_deal.specs.Seeds.{seed_board, seed_fault};
 ghost use Rattle.seed_deal.specs.Shuffle.{deck_in_order, shuffled_deck};
@@ -11,7 +10,7 @@ use crate::fault::{SeedFault, seed_fault};
 use crate::layout::parts_of_deck;
 use crate::shuffle::shuffle;
 use card_piles::Card;
-use game_model::{Board, BoardFault, Goal, HoleStart, Rules};
+use game_model::{Board, BoardFault, Goal, HoleStart, RuleParts, Rules};
 use rand_pcg::Lcg64Xsh32;
 use std::alloc::{AllocError, Global};
 
@@ -31,15 +30,22 @@ fn shuffled_deck(alloc: Global, rules: &Rules, seed: u64) -> Result<Vec<Card>, A
 }
 
 /// Reads the card that the hole begins with, which has one of the thirteen ranks.
-fn read_start(goal: Goal)
-    ensures { HasStart goal }
+fn read_start(rules: &RuleParts)
+    ensures { HasStart rules.now.goal }
 {
-    if let Goal::Hole {
-        start: HoleStart::Named(card),
-        ..
-    } = goal
-    {
-        let _ = card.rank();
+    match rules.goal {
+        Goal::Hole {
+            start: HoleStart::Named(card),
+            ..
+        } => {
+            let _ = card.rank();
+        }
+        Goal::Hole {
+            start: HoleStart::Dealt,
+            ..
+        } => {}
+        Goal::Foundations { .. } => {}
+        Goal::Sequences => {}
     }
 }
 
@@ -55,8 +61,7 @@ pub fn deal_from_seed(alloc: Global, rules: &Rules, seed: u64) -> Result<Board, 
     ensures belongs { IfOk result (λ board. Belongs rules.now board) }
     ensures fault { IfErr result (λ fault. (fault ≡ SeedFault.Memory) ⊎ (seed_fault rules.now ≡ Some fault)) }
 {
-    let _ = rules.parts();
-    read_start(rules.goal());
+    read_start(&rules.parts());
     if let Some(fault) = seed_fault(rules) {
         return Err(fault);
     }

@@ -1,5 +1,5 @@
 //! The deck in order.
-ghost use Rattle.std.specs.Prelude.{◌≡◌, ◌≤◌, ◌++◌, IfOk, OnOk};
+ghost use Rattle.std.specs.Prelude.{◌≡◌, ◌+◌, ◌≤◌, ◌++◌, IfOk, OnOk};
 ghost use Rattle.seed_deal.specs.Shuffle.{suit_in_order, one_deck, deck_in_order};
 
 use card_piles::{Card, Suit};

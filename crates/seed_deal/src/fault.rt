@@ -59,13 +59,12 @@ fn cards_needed(rules: &Rules) -> u16
     ensures { result ≡ cards_needed rules.now }
 {
     let _ = rules.max_rank();
-    let goal = rules.goal();
-    let on_foundations = if goal.is_started() {
+    let on_foundations = if rules.goal().is_started() {
         4 * u16::from(rules.decks())
     } else {
         0
     };
-    let in_hole = if matches!(goal, Goal::Hole { .. }) { 1 } else { 0 };
+    let in_hole = if matches!(rules.goal(), Goal::Hole { .. }) { 1 } else { 0 };
     on_foundations
         + in_hole
         + u16::from(rules.cells_filled())

@@ -1,5 +1,5 @@
 //! A shuffled deck laid out, in the first five steps here and the last two in `piles`.
-ghost use Rattle.std.specs.Prelude.{◌≡◌, ◌≤◌, Some, map, length, take, drop, replicate, false, IfOk, OnOk};
+ghost use Rattle.std.specs.Prelude.{◌≡◌, ◌≤◌, ◌<◌, ◌+◌, ◌++◌, Some, None, map, length, take, drop, replicate, false, IfOk, OnOk, IfSome, IfNone};
 ghost use Rattle.std.specs.List.{range_with_len};
 ghost use Rattle.game_rules.specs.Position.{filled, parts_of, row_count};
 ghost use Rattle.game_rules.specs.Rules.{is_sequence_goal};
@@ -8,7 +8,7 @@ ghost use Rattle.seed_deal.specs.Layout.{after_foundations, beside_hole, board_o
 
 use crate::piles::{face_down_of, piles_laid};
 use card_piles::Card;
-use game_model::{BoardParts, Goal, HoleStart, Rules};
+use game_model::{BoardParts, Goal, HoleStart, RuleParts, Rules};
 use item_list::Items;
 use std::alloc::{AllocError, Global};
 
@@ -24,13 +24,13 @@ fn split<T: Copy>(items: &[T], n: usize) -> (&[T], &[T])
 fn after_foundations(alloc: Global, rules: &Rules, deck: &[Card]) -> Result<Vec<Card>, AllocError>
     ensures { IfOk result (λ cards. cards.items ≡ after_foundations rules.now deck.now) }
 {
-    let goal = rules.goal();
-    if !goal.is_started() {
+    if !rules.goal().is_started() {
         return Vec::from_slice(alloc, deck);
     }
+    let base = rules.goal().base();
     let mut cards = Vec::new(alloc);
     for card in deck {
-        if card.rank() != goal.base() {
+        if card.rank() != base {
             cards.push(*card)?;
         }
     }
@@ -46,22 +46,39 @@ fn dealt_heights(alloc: Global, rules: &Rules) -> Result<Items<u8>, AllocError>
     Ok(Items::from_vec(heights))
 }
 
+/// The place of the first card that is this one.
+fn first_place(cards: &[Card], card: Card) -> Option<usize>
+    ensures found { IfSome result (λ at. (at < length cards.now) × (without_first card cards.now ≡ take at cards.now ++ drop (at + 1) cards.now)) }
+    ensures none { IfNone result (without_first card cards.now ≡ cards.now) }
+{
+    for (at, next) in cards.iter().enumerate() {
+        if *next == card {
+            return Some(at);
+        }
+    }
+    None
+}
+
 /// Takes the first card that is this one out of the list.
 fn take_out(cards: &mut Vec<Card>, card: Card)
     ensures { cards.new.items ≡ without_first card cards.old.items }
 {
-    if let Some(at) = cards.iter().position(|next| *next == card) {
+    if let Some(at) = first_place(cards.as_slice(), card) {
         let _ = cards.remove(at);
     }
 }
 
 /// Step 2: takes the card of the hole out of the list, and gives the hole.
-fn take_hole(alloc: Global, goal: Goal, cards: &mut Vec<Card>) -> Result<Items<Card>, AllocError>
-    ensures hole { IfOk result (λ hole. hole ≡ dealt_hole goal cards.old.items) }
-    ensures beside { OnOk result (cards.new.items ≡ beside_hole goal cards.old.items) }
+fn take_hole(
+    alloc: Global,
+    rules: &RuleParts,
+    cards: &mut Vec<Card>,
+) -> Result<Items<Card>, AllocError>
+    ensures hole { IfOk result (λ hole. hole ≡ dealt_hole rules.now.goal cards.old.items) }
+    ensures beside { OnOk result (cards.new.items ≡ beside_hole rules.now.goal cards.old.items) }
 {
     let mut hole = Items::new(alloc);
-    match goal {
+    match rules.goal {
         Goal::Hole {
             start: HoleStart::Dealt,
             ..
@@ -105,9 +122,8 @@ fn laid_out(alloc: Global, rules: &Rules, deck: &[Card]) -> Result<BoardParts, A
     requires no_rows { is_sequence_goal rules.now.goal ≡ false }
     ensures { IfOk result (λ parts. parts ≡ parts_of rules.now (laid_out rules.now deck.now)) }
 {
-    let _ = rules.parts();
     let mut deck = after_foundations(alloc, rules, deck)?;
-    let hole = take_hole(alloc, rules.goal(), &mut deck)?;
+    let hole = take_hole(alloc, &rules.parts(), &mut deck)?;
     let (in_cells, rest) = split(&deck, usize::from(rules.cells_filled()));
     let (in_reserve, rest) = split(rest, usize::from(rules.reserve()));
     let (in_stock, rest) = split(rest, usize::from(rules.stock()));

@@ -31,7 +31,7 @@ pub fn piles_laid(
 {
     let mut tableau = no_cards(alloc, piles)?;
     let mut rest = cards;
-    if layout == Layout::Triangle {
+    if matches!(layout, Layout::Triangle) {
         for row in 0..piles {
             for pile in row..piles {
                 if let Some((card, others)) = rest.split_first() {
@@ -49,6 +49,17 @@ pub fn piles_laid(
     Ok(Items::from_vec(tableau))
 }
 
+/// How many of these cards of a pile lie face down.
+fn face_down(face: Face, cards: &[Card]) -> u8
+    requires { length cards.now ≤ 255 }
+    ensures { result ≡ (turned face cards.now).face_down }
+{
+    match face {
+        Face::AllUp => 0,
+        Face::TopUp => cards.len().saturating_sub(1) as u8,
+    }
+}
+
 /// How many cards of each pile lie face down: none, or all but the top.
 pub fn face_down_of(
     alloc: Global,
@@ -60,8 +71,7 @@ pub fn face_down_of(
 {
     let mut numbers = Items::new(alloc);
     for cards in tableau {
-        let below_top = cards.len().saturating_sub(1) as u8;
-        numbers.push(if face == Face::TopUp { below_top } else { 0 })?;
+        numbers.push(face_down(face, cards.items()))?;
     }
     Ok(numbers)
 }

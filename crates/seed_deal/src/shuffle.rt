@@ -1,6 +1,5 @@
 //! A list shuffled by a generator's words.
-ghost use Rattle.std.specs.Prelude.{◌≡◌, ◌≤◌, ◌<◌, ◌-◌, ◌^◌, length};
-ghost use Rattle.std.specs.List.{IsPermutation};
+ghost use Rattle.std.specs.Prelude.{IsPermutation, ◌≡◌, ◌≤◌, ◌<◌, ◌-◌, ◌^◌, length};
 ghost use Rattle.seed_deal.specs.Shuffle.{shuffled, chosen_place};
 
 use card_piles::Card;
@@ -21,7 +20,9 @@ pub fn shuffle<R: Rng>(words: &mut R, cards: &mut [Card])
     ensures order { cards.new ≡ shuffled (R.stream words.old) (length cards.old - 1) cards.old }
     ensures cards { IsPermutation cards.old cards.new }
 {
-    for last in (1..cards.len()).rev() {
+    let mut last = cards.len();
+    while last > 1 {
+        last -= 1;
         let word = words.next_u32();
         cards.swap(last, chosen_place(word, last));
     }

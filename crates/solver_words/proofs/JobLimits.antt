@@ -95,8 +95,8 @@ limits-solve_seed_of words job h =
 -- where one of two readings is chosen, what holds of both holds of it
 either : (b : Bool) (first second : Result Job WordFault) (job : Job) → (first ≡ Ok job → IsWithinLimits job) → (second ≡ Ok job → IsWithinLimits job)
     → cond b first second ≡ Ok job → IsWithinLimits job
-either true first second job yes no h = yes h
-either false first second job yes no h = no h
+either true first second job of_first of_second h = of_first h
+either false first second job of_first of_second h = of_second h
 
 limits-solve_of : (words : List (List ℕ)) (job : Job) → solve_of words ≡ Ok job → IsWithinLimits job
 limits-solve_of words job h =
