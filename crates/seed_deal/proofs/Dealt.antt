@@ -1,7 +1,8 @@
 -- The board of a deck belongs to the rules.
 use Rattle.std.proofs.Common.{◌≡◌, ℕ, ◌+◌, ◌*◌, ◌-◌, ◌<◌, ◌≤◌, zero, suc, Bool, true, false, ◌&&◌, ◌||◌, not, List, [], ◌∷◌, map, length, take, drop, replicate, min, refl, ap, sym, ◌∙◌, arith, inl, inr, length-take, length-drop}
 use Rattle.std.specs.Prelude.{cond, Option, Some, None, IsTrue, ◌==◌, nat_lt, nat_le, is_some, if◌then◌else◌}
-use Rattle.std.specs.List.{sum_by, count_by, filter, list_all}
+use Rattle.std.specs.List.{sum_by, count_by, filter, list_all, range_with_len}
+use Rattle.std.specs.List.Sorted.{IsPermutation}
 use Rattle.std.proofs.lemmas.List.{length-map, length-replicate}
 use Rattle.std.proofs.lemmas.List.Sums.{sum_by-cons, sum_by-append}
 use Rattle.std.proofs.lemmas.Bool.{ltb-true, ltb-false, lt-ltb, leb-true, le-leb, eq-eqb, ne_eqb, eqb-true, cases_eq, cases_Bool, and_parts}
@@ -20,8 +21,10 @@ use Rattle.game_rules.specs.Rules.{base_of, deals_to_waste, is_foundation_goal, 
 use Rattle.game_rules.specs.Conflicts.{IsPlayable, HasLimits, has_base_above, has_parts_beside_rows, is_base_within, is_within, starts_above}
 use Rattle.game_rules.specs.Board.{Board, Pile}
 use Rattle.game_rules.specs.Play.{is_empty}
-use Rattle.game_rules.specs.Belonging.{Belongs, lies_well, foundation_count, slot_count, copies_of, copies_in, copies_in_piles, same_card, copies_at_home, copies_on, copies_due}
-use Rattle.game_rules.specs.Position.{filled}
+use Rattle.game_rules.specs.Belonging.{Belongs, lies_well, foundation_count, slot_count, most_redeals, copies_of, copies_in, copies_in_piles, same_card, copies_at_home, copies_on, copies_due}
+use Rattle.game_rules.specs.Position.{filled, parts_of, row_count}
+use Rattle.game_rules.specs.Winning.{row_at}
+use Rattle.game_rules.specs.declared.BoardParts.{BoardParts}
 use Rattle.game_rules.proofs.Limits.{past, was_false, both, limits_of, numbers_within}
 use Rattle.game_rules.proofs.FewCards.{once}
 use Rattle.game_rules.proofs.ListFacts.{and_both}
@@ -29,16 +32,17 @@ use Rattle.game_rules.proofs.Copies.{copies-cut}
 use Rattle.game_rules.proofs.PositionFacts.{length-filled}
 use Rattle.seed_deal.specs.declared.fault.SeedFault.{SeedFault}
 use Rattle.seed_deal.specs.declared.fault.SeedFault.TheVariants.{TooFewCards, TooManyCards}
-use Rattle.seed_deal.specs.Layout.{after_foundations, after_hole, after_cells, after_reserve, after_stock, beside_hole, dealt_cells, dealt_heights, dealt_hole, dealt_piles, dealt_reserve, dealt_stock, piles_laid, turned, laid_out, laid_in_rows, board_of_deck, slot_for}
+use Rattle.seed_deal.specs.Layout.{after_foundations, after_hole, after_cells, after_reserve, after_stock, beside_hole, dealt_cells, dealt_heights, dealt_hole, dealt_piles, dealt_reserve, dealt_stock, piles_laid, turned, laid_out, laid_in_rows, board_of_deck, slot_for, without_first}
+use Rattle.seed_deal.specs.Shuffle.{deck_in_order}
 use Rattle.seed_deal.specs.Seeds.{cards_in_decks, cards_needed, cards_of_triangle, seed_fault}
 use Rattle.seed_deal.specs.Starts.{HasStart}
-use Rattle.seed_deal.proofs.Decks.{IsDeck, in_range, in_range-yes}
+use Rattle.seed_deal.proofs.Decks.{IsDeck, IsDeck-shuffled, in_range, in_range-yes}
 use Rattle.seed_deal.proofs.Laying.{length-piles_laid, sum-piles_laid}
 use Rattle.seed_deal.proofs.Steps.{staying-none, staying-all, length-staying, home-none, home-started, HasNamed, copies-hole, length-beside_hole, copies-entries, copies-filled, all-entries, slots-aces, slots-others}
 
 -- What playable rules say of a layout.
 
-few_filled : (rules : RuleParts) → IsPlayable rules → rules.cells_filled ≤ rules.cells
+pub few_filled : (rules : RuleParts) → IsPlayable rules → rules.cells_filled ≤ rules.cells
 few_filled rules h = ltb-false rules.cells rules.cells_filled (was_false _ 6 _ (past _ 5 _ (past _ 4 _ (past _ 3 _ (past _ 2 _ h.no_conflict)))))
 
 base_below : (rules : RuleParts) → IsPlayable rules → has_base_above rules ≡ false
@@ -376,3 +380,77 @@ board_of_deck-belongs rules deck playable deals start fault =
     choose rules (is_sequence_goal rules.goal) (laid_in_rows rules deck) (laid_out rules deck)
     (λ on. laid_in_rows-belongs rules deck playable deals on)
     (λ plain. laid_out-belongs rules deck playable limits deals there plain (fits-from rules plain fault))
+
+pub dealt-belongs : (rules : RuleParts) (deck : List Card) → IsPlayable rules → IsPermutation (deck_in_order rules) deck → HasStart rules.goal → seed_fault rules ≡ None
+    → Belongs rules (board_of_deck rules deck)
+dealt-belongs rules deck playable exchanged start fault = board_of_deck-belongs rules deck playable (IsDeck-shuffled rules deck exchanged) start fault
+
+-- No step leaves more cards than there were.
+
+few-staying : (deck : List Card) (b : ℕ) (started : Bool) → length (if started then filter (λ c. not (c.rank == b)) deck else deck) ≤ length deck
+few-staying deck b true = omega (arith, length-staying b deck)
+few-staying deck b false = omega arith
+
+few-without : (card : Card) (cards : List Card) → length (without_first card cards) ≤ length cards
+few-without card [] = omega arith
+few-without card (c ∷ cards) = few-chosen c cards (without_first card cards) (same_card card c) (few-without card cards)
+  where
+    few-chosen : (c : Card) (cards rest : List Card) (t : Bool) → length rest ≤ length cards → length (cond t cards (c ∷ rest)) ≤ length (c ∷ cards)
+    few-chosen c cards rest true few = omega arith
+    few-chosen c cards rest false few = omega (arith, few)
+
+pub few-beside : (goal : Goal) (cards : List Card) → length (beside_hole goal cards) ≤ length cards
+few-beside (Foundations base started take_back complete_runs) cards = omega arith
+few-beside (Hole wrap Dealt) cards = omega (arith, length-drop 1 cards)
+few-beside (Hole wrap (Named card)) cards = few-without card cards
+few-beside Sequences cards = omega arith
+
+pub few-first : (rules : RuleParts) (deck : List Card) → length (after_foundations rules deck) ≤ length deck
+few-first rules deck = few-staying deck (base_of rules.goal) (is_started rules.goal)
+
+pub few-left : (rules : RuleParts) (deck : List Card) → length (after_stock rules deck) ≤ length deck
+few-left rules deck =
+    omega (arith, few-staying deck (base_of rules.goal) (is_started rules.goal), few-beside rules.goal (after_foundations rules deck),
+    length-drop rules.cells_filled (after_hole rules deck), length-drop rules.reserve (after_cells rules deck), length-drop rules.stock (after_reserve rules deck))
+
+-- The parts of the board, one by one.
+
+same_parts : (a b : BoardParts) → a.tableau ≡ b.tableau → a.face_down ≡ b.face_down → a.cells ≡ b.cells → a.reserve ≡ b.reserve → a.stock ≡ b.stock
+    → a.waste ≡ b.waste → a.redeals_left ≡ b.redeals_left → a.foundations ≡ b.foundations → a.hole ≡ b.hole → a.rows ≡ b.rows → a ≡ b
+same_parts a b tableau face_down cells reserve stock waste redeals heights hole rows =
+    ap (λ x. record a { tableau = x }) tableau
+    ∙ ap (λ x. record a { tableau = b.tableau; face_down = x }) face_down
+    ∙ ap (λ x. record a { tableau = b.tableau; face_down = b.face_down; cells = x }) cells
+    ∙ ap (λ x. record a { tableau = b.tableau; face_down = b.face_down; cells = b.cells; reserve = x }) reserve
+    ∙ ap (λ x. record a { tableau = b.tableau; face_down = b.face_down; cells = b.cells; reserve = b.reserve; stock = x }) stock
+    ∙ ap (λ x. record b { redeals_left = a.redeals_left; foundations = a.foundations; hole = a.hole; rows = a.rows; waste = x }) waste
+    ∙ ap (λ x. record b { foundations = a.foundations; hole = a.hole; rows = a.rows; redeals_left = x }) redeals
+    ∙ ap (λ x. record b { hole = a.hole; rows = a.rows; foundations = x }) heights
+    ∙ ap (λ x. record b { rows = a.rows; hole = x }) hole
+    ∙ ap (λ x. record b { rows = x }) rows
+
+pile-lists : (face : Face) (tableau : List (List Card)) → map (λ pile. pile.cards) (map (turned face) tableau) ≡ tableau
+pile-lists face [] = refl
+pile-lists AllUp (cards ∷ tableau) = ap (λ (xs : List (List Card)). cards ∷ xs) (pile-lists AllUp tableau)
+pile-lists TopUp (cards ∷ tableau) = ap (λ (xs : List (List Card)). cards ∷ xs) (pile-lists TopUp tableau)
+
+pile-downs : (face : Face) (tableau : List (List Card)) → map (λ pile. pile.face_down) (map (turned face) tableau) ≡ map (λ cards. (turned face cards).face_down) tableau
+pile-downs face [] = refl
+pile-downs face (cards ∷ tableau) = ap (λ (xs : List ℕ). (turned face cards).face_down ∷ xs) (pile-downs face tableau)
+
+no_rows-there : (rules : RuleParts) (board : Board) → is_sequence_goal rules.goal ≡ false → map (row_at rules board) (range_with_len 0 (row_count rules)) ≡ []
+no_rows-there rules board plain = ap (λ (t : Bool). map (row_at rules board) (range_with_len 0 (if t then 4 * rules.decks else 0))) plain
+
+pub laid_out-parts : (rules : RuleParts) (deck : List Card) (parts : BoardParts) → is_sequence_goal rules.goal ≡ false
+    → parts.tableau ≡ piles_laid rules.layout rules.piles (after_stock rules deck)
+    → parts.face_down ≡ map (λ cards. (turned rules.face cards).face_down) parts.tableau
+    → parts.cells ≡ dealt_cells rules deck → parts.reserve ≡ dealt_reserve rules deck → parts.stock ≡ dealt_stock rules deck → parts.waste ≡ []
+    → parts.redeals_left ≡ most_redeals rules.redeals → parts.foundations ≡ dealt_heights rules → parts.hole ≡ dealt_hole rules.goal (after_foundations rules deck)
+    → parts.rows ≡ [] → parts ≡ parts_of rules (laid_out rules deck)
+laid_out-parts rules deck parts plain tableau face_down cells reserve stock waste redeals heights hole rows =
+    let piles : List (List Card) = piles_laid rules.layout rules.piles (after_stock rules deck) in
+    let lists : parts.tableau ≡ map (λ pile. pile.cards) (dealt_piles rules deck) = tableau ∙ sym (pile-lists rules.face piles) in
+    let downs : parts.face_down ≡ map (λ pile. pile.face_down) (dealt_piles rules deck) =
+    face_down ∙ ap (λ (xs : List (List Card)). map (λ cards. (turned rules.face cards).face_down) xs) tableau ∙ sym (pile-downs rules.face piles) in
+    let none : parts.rows ≡ map (row_at rules (laid_out rules deck)) (range_with_len 0 (row_count rules)) = rows ∙ sym (no_rows-there rules (laid_out rules deck) plain) in
+    same_parts parts (parts_of rules (laid_out rules deck)) lists downs cells reserve stock waste redeals heights hole none

@@ -1,5 +1,5 @@
 -- What a deck in order holds.
-use Rattle.std.proofs.Common.{◌≡◌, ℕ, ◌+◌, ◌*◌, ◌<◌, ◌≤◌, zero, suc, Bool, true, false, ◌&&◌, List, [], ◌∷◌, ◌++◌, map, length, refl, ap, ap₂, sym, ◌∙◌, arith, inl, inr}
+use Rattle.std.proofs.Common.{◌≡◌, ℕ, ◌+◌, ◌*◌, ◌<◌, ◌≤◌, zero, suc, Bool, true, false, ◌&&◌, List, [], ◌∷◌, ◌++◌, map, length, refl, ap, ap₂, sym, ◌∙◌, arith, inl, inr, mul-le-mul_left}
 use Rattle.std.specs.Prelude.{IsTrue, ◌==◌, nat_le, cond}
 use Rattle.std.specs.List.{sum_by, count_by, flat_map, range_with_len}
 use Rattle.std.proofs.lemmas.List.Sums.{sum_by-append, sum_by-cons, sum_by_push}
@@ -15,6 +15,7 @@ use Rattle.card_piles.specs.Cards.{place_of}
 use Rattle.card_piles.specs.Builds.{same_suit}
 use Rattle.game_rules.specs.declared.RuleParts.{RuleParts}
 use Rattle.game_rules.specs.Board.{suit_at}
+use Rattle.game_rules.specs.Conflicts.{HasLimits}
 use Rattle.game_rules.specs.Belonging.{same_card, copies_of}
 use Rattle.game_rules.proofs.FewCards.{once, sum_by-same}
 use Rattle.game_rules.proofs.PositionLoops.{range-more}
@@ -142,7 +143,7 @@ deck-rank b m =
     omega (arith, sum-suits (λ (c : Card). once (c.rank == b)) m, suit-rank b Clubs m, suit-rank b Diamonds m, suit-rank b Hearts m, suit-rank b Spades m)
 
 -- how long a deck is
-ones : {A : Type 0} (xs : List A) → sum_by (λ x. 1) xs ≡ length xs
+pub ones : {A : Type 0} (xs : List A) → sum_by (λ x. 1) xs ≡ length xs
 ones xs = let product : 1 * length xs ≡ length xs = omega arith in sum-constant 1 xs ∙ product
 
 length-suit : (suit : Suit) (m : ℕ) → length (suit_in_order m suit) ≡ m
@@ -174,3 +175,9 @@ IsDeck-shuffled rules deck exchanged =
 
 pub length-in_order : (rules : RuleParts) → length (deck_in_order rules) ≡ rules.decks * (4 * rules.max_rank)
 length-in_order rules = sym (ones (deck_in_order rules)) ∙ sum-decks (λ (c : Card). 1) rules.max_rank 0 rules.decks ∙ ap (λ (n : ℕ). rules.decks * n) (deck-ones rules.max_rank)
+
+pub few-in_order : (rules : RuleParts) → HasLimits rules → length (deck_in_order rules) ≤ 104
+few-in_order rules limits =
+    let ranks : 4 * rules.max_rank ≤ 52 = omega (arith, limits.max_rank) in
+    let product = mul-le-mul_left rules.decks ranks in
+    omega (arith, length-in_order rules, product, limits.decks)

@@ -11,6 +11,8 @@ use Rattle.card_piles.specs.declared.Card.{Card}
 use Rattle.game_rules.specs.declared.Layout.{Layout}
 use Rattle.game_rules.specs.declared.Layout.TheVariants.{Even, Triangle}
 use Rattle.game_rules.proofs.PositionFacts.{list_all-range}
+use Rattle.game_rules.proofs.FewCards.{sum_by-same}
+use Rattle.seed_deal.proofs.Decks.{ones}
 use Rattle.seed_deal.specs.Layout.{laid_on, triangle_order, round_order, piles_laid}
 
 -- whether each number is that of a pile
@@ -121,3 +123,112 @@ pub few-piles_laid : (f : Card → ℕ) (layout : Layout) (piles : ℕ) (cards :
     → sum_by (λ pile. sum_by f pile) (piles_laid layout piles cards) ≤ sum_by f cards
 few-piles_laid f layout zero cards = omega (arith, sum-none f layout cards)
 few-piles_laid f layout (suc n) cards = omega (arith, sum-some f layout (suc n) cards (omega arith))
+
+pub few-lengths : (layout : Layout) (piles : ℕ) (cards : List Card) → sum_by (λ pile. length pile) (piles_laid layout piles cards) ≤ length cards
+few-lengths layout piles cards =
+    let few = few-piles_laid (λ (c : Card). 1) layout piles cards in
+    let same = sum_by-same (λ (pile : List Card). length pile) (λ (pile : List Card). sum_by (λ c. 1) pile) (piles_laid layout piles cards) (λ pile. sym (ones pile)) in
+    omega (arith, few, same, ones cards)
+
+-- The loops that lay cards: what is still to be laid gives what all of it does.
+
+pub laid_on-empty : (order : List ℕ) (piles : List (List Card)) → laid_on order [] piles ≡ piles
+laid_on-empty [] piles = refl
+laid_on-empty (i ∷ order) piles = refl
+
+drop-empty : (n : ℕ) → drop n [] ≡ []
+drop-empty zero = refl
+drop-empty (suc n) = refl
+
+-- laying by this order from here on comes to what laying by the other order from there on does
+pub record LaysAs (order : List ℕ) (cards : List Card) (piles : List (List Card)) (whole : List ℕ) (deck : List Card) (start : List (List Card)) : Type 0 where
+  pub laid : laid_on order cards piles ≡ laid_on whole deck start
+  pub rest : drop (length order) cards ≡ drop (length whole) deck
+
+abbrev pub rows_from : ℕ → ℕ → List ℕ
+rows_from count row = flat_map (λ r. range_with_len r (count - r)) (range_with_len row (count - row))
+
+abbrev pub row_from : ℕ → ℕ → ℕ → List ℕ
+row_from count row pile = range_with_len pile (count - pile) ++ rows_from count (row + 1)
+
+pub lays_same : (a b : List ℕ) (cards : List Card) (piles : List (List Card)) (whole : List ℕ) (deck : List Card) (start : List (List Card)) → a ≡ b
+    → LaysAs a cards piles whole deck start → LaysAs b cards piles whole deck start
+lays_same a b cards piles whole deck start same lays = record {
+  laid = ap (λ (o : List ℕ). laid_on o cards piles) (sym same) ∙ lays.laid;
+  rest = ap (λ (o : List ℕ). drop (length o) cards) (sym same) ∙ lays.rest;
+}
+
+-- a row begins
+pub row-begins : (count row : ℕ) → row < count → rows_from count row ≡ row_from count row row
+row-begins count row inside =
+    let one : count - row ≡ suc (count - (row + 1)) = omega (arith, inside) in
+    ap (λ (n : ℕ). flat_map (λ r. range_with_len r (count - r)) (range_with_len row n)) one
+
+-- a row has one pile more
+row-pile : (count row pile : ℕ) → pile < count → row_from count row pile ≡ pile ∷ row_from count row (pile + 1)
+row-pile count row pile inside =
+    let one : count - pile ≡ suc (count - (pile + 1)) = omega (arith, inside) in
+    ap (λ (n : ℕ). range_with_len pile n ++ rows_from count (row + 1)) one
+
+pub row-next : (count row pile : ℕ) (card : Card) (cards : List Card) (piles : List (List Card)) (whole : List ℕ) (deck : List Card) (start : List (List Card))
+    → pile < count → LaysAs (row_from count row pile) (card ∷ cards) piles whole deck start
+    → LaysAs (row_from count row (pile + 1)) cards (set piles pile (get_or piles pile [] ++ card ∷ [])) whole deck start
+row-next count row pile card cards piles whole deck start inside lays =
+    let next = lays_same (row_from count row pile) (pile ∷ row_from count row (pile + 1)) (card ∷ cards) piles whole deck start (row-pile count row pile inside) lays in
+    record { laid = next.laid; rest = next.rest }
+
+-- a row ends
+pub row-ends : (count row pile : ℕ) → count ≤ pile → row_from count row pile ≡ rows_from count (row + 1)
+row-ends count row pile past =
+    let none : count - pile ≡ 0 = omega (arith, past) in
+    ap (λ (n : ℕ). range_with_len pile n ++ rows_from count (row + 1)) none
+
+-- all rows are laid, or all cards
+pub rows-end : (count row : ℕ) (cards : List Card) (piles : List (List Card)) (whole : List ℕ) (deck : List Card) (start : List (List Card)) → count ≤ row
+    → LaysAs (rows_from count row) cards piles whole deck start → (piles ≡ laid_on whole deck start) × (cards ≡ drop (length whole) deck)
+rows-end count row cards piles whole deck start past lays =
+    let none : count - row ≡ 0 = omega (arith, past) in
+    let done : rows_from count row ≡ [] = ap (λ (n : ℕ). flat_map (λ r. range_with_len r (count - r)) (range_with_len row n)) none in
+    let last = lays_same (rows_from count row) [] cards piles whole deck start done lays in
+    (last.laid, last.rest)
+
+pub cards-end : (order : List ℕ) (cards : List Card) (piles : List (List Card)) (whole : List ℕ) (deck : List Card) (start : List (List Card)) → cards ≡ []
+    → LaysAs order cards piles whole deck start → (piles ≡ laid_on whole deck start) × (cards ≡ drop (length whole) deck)
+cards-end order cards piles whole deck start none lays =
+    (
+      sym (ap (λ (c : List Card). laid_on order c piles) none ∙ laid_on-empty order piles) ∙ lays.laid,
+      none ∙ sym (ap (λ (c : List Card). drop (length order) c) none ∙ drop-empty (length order)) ∙ lays.rest,
+    )
+
+-- one card more in turn
+pub drop-next : {A : Type 0} (xs : List A) (i : ℕ) (d : A) → i < length xs → drop i xs ≡ get_or xs i d ∷ drop (i + 1) xs
+drop-next [] i d inside = absurd (omega (arith, inside))
+drop-next (x ∷ xs) zero d inside = refl
+drop-next (x ∷ xs) (suc i) d inside =
+    let next : suc i + 1 ≡ suc (i + 1) = omega arith in
+    drop-next xs i d (omega (arith, inside)) ∙ ap (λ (n : ℕ). get_or xs i d ∷ drop n (x ∷ xs)) (sym next)
+
+pub turn-next : (count k : ℕ) (cards : List Card) (card : Card) (piles : List (List Card)) → k < length cards
+    → laid_on (map (λ j. j % count) (range_with_len k (length cards - k))) (drop k cards) piles
+    ≡ laid_on (map (λ j. j % count) (range_with_len (k + 1) (length cards - (k + 1)))) (drop (k + 1) cards)
+    (set piles (k % count) (get_or piles (k % count) [] ++ get_or cards k card ∷ []))
+turn-next count k cards card piles inside =
+    let one : length cards - k ≡ suc (length cards - (k + 1)) = omega (arith, inside) in
+    ap (λ (n : ℕ). laid_on (map (λ j. j % count) (range_with_len k n)) (drop k cards) piles) one
+    ∙ ap (λ (c : List Card). laid_on (map (λ j. j % count) (range_with_len k (suc (length cards - (k + 1))))) c piles) (drop-next cards k card inside)
+
+-- a card is laid on the next pile of a row
+pub row-more : (count row pile : ℕ) (card : Card) (rest others : List Card) (piles grown : List (List Card)) (whole : List ℕ) (deck : List Card) (start : List (List Card))
+    → pile < count → rest ≡ card ∷ others → grown ≡ set piles pile (get_or piles pile [] ++ card ∷ [])
+    → LaysAs (row_from count row pile) rest piles whole deck start → LaysAs (row_from count row (pile + 1)) others grown whole deck start
+row-more count row pile card rest others piles grown whole deck start inside next put lays =
+    let order : List ℕ = row_from count row pile in
+    let here : LaysAs order (card ∷ others) piles whole deck start = record {
+      laid = ap (λ (xs : List Card). laid_on order xs piles) (sym next) ∙ lays.laid;
+      rest = ap (λ (xs : List Card). drop (length order) xs) (sym next) ∙ lays.rest;
+    } in
+    let there = row-next count row pile card others piles whole deck start inside here in
+    record { laid = ap (λ (ps : List (List Card)). laid_on (row_from count row (pile + 1)) others ps) put ∙ there.laid; rest = there.rest }
+
+pub length-grown : (piles grown : List (List Card)) (pile : ℕ) (cards : List Card) → grown ≡ set piles pile cards → length grown ≡ length piles
+length-grown piles grown pile cards put = ap length put ∙ length-set piles pile cards

@@ -98,12 +98,16 @@ triangle_order Triangle piles = flat_map (λ row. range_with_len row (piles - ro
 abbrev pub round_order : ℕ → ℕ → List ℕ
 round_order piles n = map (λ k. k % piles) (range_with_len 0 n)
 
--- the cards of each pile, where all of these are laid on the piles
-abbrev pub piles_laid : Layout → ℕ → List Card → List (List Card)
-piles_laid layout piles cards =
-    let rows = triangle_order layout piles in
+-- the piles after both steps, where all of these cards are laid on them
+abbrev pub all_laid : Layout → ℕ → List Card → List (List Card) → List (List Card)
+all_laid layout count cards piles =
+    let rows = triangle_order layout count in
     let rest = drop (length rows) cards in
-    laid_on (round_order piles (length rest)) rest (laid_on rows cards (replicate piles []))
+    laid_on (round_order count (length rest)) rest (laid_on rows cards piles)
+
+-- the cards of each pile
+abbrev pub piles_laid : Layout → ℕ → List Card → List (List Card)
+piles_laid layout count cards = all_laid layout count cards (replicate count [])
 
 -- a pile with these cards, and all but its top face down where only tops lie face up
 abbrev pub turned : Face → List Card → Pile

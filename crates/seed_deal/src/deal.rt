@@ -25,7 +25,8 @@ fn shuffled_deck(alloc: Global, rules: &Rules, seed: u64) -> Result<Vec<Card>, A
 {
     let _ = rules.max_rank();
     let mut deck = deck_in_order(alloc, rules)?;
-    shuffle(&mut Lcg64Xsh32::new(seed, STREAM), &mut deck);
+    let mut words = Lcg64Xsh32::new(seed, STREAM);
+    shuffle(&mut words, deck.as_mut_slice());
     Ok(deck)
 }
 
@@ -66,7 +67,7 @@ pub fn deal_from_seed(alloc: Global, rules: &Rules, seed: u64) -> Result<Board, 
         return Err(fault);
     }
     let deck = shuffled_deck(alloc, rules, seed)?;
-    let parts = parts_of_deck(alloc, rules, &deck)?;
+    let parts = parts_of_deck(alloc, rules, deck.as_slice())?;
     match Board::new(alloc, rules, parts) {
         Ok(board) => Ok(board),
         Err(BoardFault::Memory) => Err(SeedFault::Memory),

@@ -124,20 +124,24 @@ fn laid_out(alloc: Global, rules: &Rules, deck: &[Card]) -> Result<BoardParts, A
 {
     let mut deck = after_foundations(alloc, rules, deck)?;
     let hole = take_hole(alloc, &rules.parts(), &mut deck)?;
-    let (in_cells, rest) = split(&deck, usize::from(rules.cells_filled()));
+    let (in_cells, rest) = split(deck.as_slice(), usize::from(rules.cells_filled()));
     let (in_reserve, rest) = split(rest, usize::from(rules.reserve()));
     let (in_stock, rest) = split(rest, usize::from(rules.stock()));
     let tableau = piles_laid(alloc, rules.layout(), rules.piles(), rest)?;
     let face_down = face_down_of(alloc, rules.face(), tableau.items())?;
+    let cells = cells_with(alloc, rules.cells(), in_cells)?;
+    let reserve = entries(alloc, in_reserve)?;
+    let stock = Items::from_slice(alloc, in_stock)?;
+    let foundations = dealt_heights(alloc, rules)?;
     Ok(BoardParts {
         tableau,
         face_down,
-        cells: cells_with(alloc, rules.cells(), in_cells)?,
-        reserve: Items::from_vec(entries(alloc, in_reserve)?),
-        stock: Items::from_slice(alloc, in_stock)?,
+        cells,
+        reserve: Items::from_vec(reserve),
+        stock,
         waste: Items::new(alloc),
         redeals_left: rules.redeals().most_left(),
-        foundations: dealt_heights(alloc, rules)?,
+        foundations,
         hole,
         rows: Items::new(alloc),
     })
@@ -150,6 +154,13 @@ fn slot_for(card: Card) -> Option<Card>
     if card.rank() == 1 { None } else { Some(card) }
 }
 
+/// The slots, which the deck fills in order.
+fn slots_for(alloc: Global, deck: &[Card]) -> Result<Vec<Option<Card>>, AllocError>
+    ensures { IfOk result (λ slots. slots.items ≡ map slot_for deck.now) }
+{
+    deck.iter().map(|card| slot_for(*card)).collect(alloc)
+}
+
 /// The rows, whose slots the deck fills in order.
 fn rows_of(
     alloc: Global,
@@ -158,10 +169,7 @@ fn rows_of(
 ) -> Result<Items<Items<Option<Card>>>, AllocError>
     ensures { IfOk result (λ rows. rows ≡ map (row_at rules.now (laid_in_rows rules.now deck.now)) (range_with_len 0 (row_count rules.now))) }
 {
-    let slots = deck
-        .iter()
-        .map(|card| slot_for(*card))
-        .collect::<Vec<Option<Card>>>(alloc)?;
+    let slots = slots_for(alloc, deck)?;
     let mut rows = Items::new(alloc);
     let mut rest = slots.as_slice();
     for _ in 0..rules.row_count() {

@@ -1,0 +1,19 @@
+use Rattle.std.proofs.Common.{◌≡◌, ap, ap₂, sym, ◌∙◌, length, arith}
+use Rattle.std.proofs.lemmas.List.Sorted.{length_permutation}
+use Rattle.seed_deal.specs.Shuffle.{deck_in_order, shuffled_deck}
+use Rattle.seed_deal.proofs.Decks.{few-in_order}
+use Rattle.seed_deal.proofs.deal.shuffled_deck.Goals as goal
+
+pub shuffle-requires : goal.shuffle-requires
+shuffle-requires c =
+    let few = few-in_order c.args.rules.now c.max_rank.ensures.limits in
+    let deck = ap length c.in_ok-deck.ensures in
+    let slice = ap length c.as_mut_slice.ensures.value in
+    omega (arith, few, deck, slice)
+
+pub returns-clause-deck : goal.returns-clause-deck
+unfolding shuffled_deck
+returns-clause-deck c = ?
+
+pub returns-clause-few : goal.returns-clause-few
+returns-clause-few c = ?
