@@ -1,5 +1,5 @@
 -- What was fetched of a file says what the file says.
-use Rattle.std.proofs.Common.{◌≡◌, ℕ, List, [], Ok, ap, sym, ◌∙◌, IsTrue, subst, inl, inr}
+use Rattle.std.proofs.Common.{◌≡◌, ℕ, List, [], Result, Ok, Err, IfOk, ap, sym, ◌∙◌, IsTrue, subst, inl, inr}
 use Rattle.std.specs.declared.option.Option.{Option}
 use Rattle.std.specs.declared.option.Option.TheVariants.{Some, None}
 use Rattle.game_rules.specs.declared.RuleParts.{RuleParts}
@@ -110,6 +110,12 @@ has_dealt files words from seed cache nodes rules board is by fits dealt = inr (
   fits = fits;
   dealt = dealt;
 })
+
+pub dealt-start : (files : Option (List File)) (words : List (List ℕ)) (from : Source) (seed cache nodes : ℕ) (rules : RuleParts) (result : Result Board Stop)
+    → from ≡ source.FromSeed seed → HasRules files words (job.Solve from cache nodes) rules → IfOk result (λ board. board ≡ seed_board rules seed)
+    → IfOk result (λ board. seed_fault rules ≡ None) → IfOk result (HasStart files words (job.Solve from cache nodes) rules)
+dealt-start files words from seed cache nodes rules (Ok board) is by dealt fits = has_dealt files words from seed cache nodes rules board is by fits dealt
+dealt-start files words from seed cache nodes rules (Err stop) is by dealt fits = tt
 
 -- what stopped the deal of a seed has its cause in the rules
 pub seed-stopped : (shelf : Shelved) (words : List (List ℕ)) (j : Job) (rules : RuleParts) (seed : ℕ) (stop : Stop)

@@ -1,5 +1,5 @@
 -- The board of a deck belongs to the rules.
-use Rattle.std.proofs.Common.{◌≡◌, ℕ, ◌+◌, ◌*◌, ◌-◌, ◌<◌, ◌≤◌, zero, suc, Bool, true, false, ◌&&◌, ◌||◌, not, List, [], ◌∷◌, map, length, take, drop, replicate, min, refl, ap, sym, ◌∙◌, arith, inl, inr, length-take, length-drop}
+use Rattle.std.proofs.Common.{◌≡◌, ◌⊎◌, ℕ, ◌+◌, ◌*◌, ◌-◌, ◌<◌, ◌≤◌, zero, suc, Bool, true, false, ◌&&◌, ◌||◌, not, List, [], ◌∷◌, map, length, take, drop, replicate, min, refl, ap, sym, ◌∙◌, arith, inl, inr, length-take, length-drop}
 use Rattle.std.specs.Prelude.{cond, Option, Some, None, IsTrue, ◌==◌, nat_lt, nat_le, is_some, if◌then◌else◌}
 use Rattle.std.specs.List.{sum_by, count_by, filter, list_all, range_with_len}
 use Rattle.std.specs.List.Sorted.{IsPermutation}
@@ -22,7 +22,10 @@ use Rattle.game_rules.specs.Conflicts.{IsPlayable, HasLimits, has_base_above, ha
 use Rattle.game_rules.specs.Board.{Board, Pile}
 use Rattle.game_rules.specs.Play.{is_empty}
 use Rattle.game_rules.specs.Belonging.{Belongs, lies_well, foundation_count, slot_count, most_redeals, copies_of, copies_in, copies_in_piles, same_card, copies_at_home, copies_on, copies_due}
-use Rattle.game_rules.specs.Position.{filled, parts_of, row_count}
+use Rattle.game_rules.specs.Position.{filled, parts_of, board_of_parts, fault_of, row_count}
+use Rattle.game_rules.specs.declared.BoardFault.{BoardFault}
+use Rattle.game_rules.specs.declared.BoardFault.TheVariants.{Memory}
+use Rattle.game_rules.proofs.BelongingExactly.{board-of_its_parts, parts-have_no_fault}
 use Rattle.game_rules.specs.Winning.{row_at}
 use Rattle.game_rules.specs.declared.BoardParts.{BoardParts}
 use Rattle.game_rules.proofs.Limits.{past, was_false, both, limits_of, numbers_within}
@@ -33,8 +36,8 @@ use Rattle.game_rules.proofs.PositionFacts.{length-filled}
 use Rattle.seed_deal.specs.declared.fault.SeedFault.{SeedFault}
 use Rattle.seed_deal.specs.declared.fault.SeedFault.TheVariants.{TooFewCards, TooManyCards}
 use Rattle.seed_deal.specs.Layout.{after_foundations, after_hole, after_cells, after_reserve, after_stock, beside_hole, dealt_cells, dealt_heights, dealt_hole, dealt_piles, dealt_reserve, dealt_stock, piles_laid, turned, laid_out, laid_in_rows, board_of_deck, slot_for, without_first}
-use Rattle.seed_deal.specs.Shuffle.{deck_in_order}
-use Rattle.seed_deal.specs.Seeds.{cards_in_decks, cards_needed, cards_of_triangle, seed_fault}
+use Rattle.seed_deal.specs.Shuffle.{deck_in_order, shuffled_deck}
+use Rattle.seed_deal.specs.Seeds.{cards_in_decks, cards_needed, cards_of_triangle, seed_board, seed_fault}
 use Rattle.seed_deal.specs.Starts.{HasStart}
 use Rattle.seed_deal.proofs.Decks.{IsDeck, IsDeck-shuffled, in_range, in_range-yes}
 use Rattle.seed_deal.proofs.Laying.{length-piles_laid, sum-piles_laid}
@@ -454,3 +457,17 @@ laid_out-parts rules deck parts plain tableau face_down cells reserve stock wast
     face_down ∙ ap (λ (xs : List (List Card)). map (λ cards. (turned rules.face cards).face_down) xs) tableau ∙ sym (pile-downs rules.face piles) in
     let none : parts.rows ≡ map (row_at rules (laid_out rules deck)) (range_with_len 0 (row_count rules)) = rows ∙ sym (no_rows-there rules (laid_out rules deck) plain) in
     same_parts parts (parts_of rules (laid_out rules deck)) lists downs cells reserve stock waste redeals heights hole none
+
+-- The board that is made of these parts.
+
+pub dealt_board : (rules : RuleParts) (deck : List Card) (seed : ℕ) (parts : BoardParts) (board : Board) → Belongs rules (board_of_deck rules deck)
+    → parts ≡ parts_of rules (board_of_deck rules deck) → board ≡ board_of_parts rules parts → deck ≡ shuffled_deck rules seed → board ≡ seed_board rules seed
+unfolding seed_board
+dealt_board rules deck seed parts board belongs is made shuffled_is =
+    made ∙ ap (board_of_parts rules) is ∙ board-of_its_parts rules (board_of_deck rules deck) belongs ∙ ap (board_of_deck rules) shuffled_is
+
+pub memory_alone : (rules : RuleParts) (deck : List Card) (parts : BoardParts) (fault : BoardFault) → Belongs rules (board_of_deck rules deck)
+    → parts ≡ parts_of rules (board_of_deck rules deck) → (fault ≡ Memory) ⊎ (fault_of rules parts ≡ Some fault) → fault ≡ Memory
+memory_alone rules deck parts fault belongs is (inl memory) = memory
+memory_alone rules deck parts fault belongs is (inr wrong) =
+    absurd (let both : None ≡ Some fault = sym (parts-have_no_fault rules (board_of_deck rules deck) belongs) ∙ ap (fault_of rules) (sym is) ∙ wrong in cc)

@@ -70,7 +70,9 @@ pub fn deal_from_seed(alloc: Global, rules: &Rules, seed: u64) -> Result<Board, 
     let parts = parts_of_deck(alloc, rules, deck.as_slice())?;
     match Board::new(alloc, rules, parts) {
         Ok(board) => Ok(board),
-        Err(BoardFault::Memory) => Err(SeedFault::Memory),
-        Err(_) => unreachable!(),
+        Err(fault) => match fault {
+            BoardFault::Memory => Err(SeedFault::Memory),
+            _ => unreachable!(),
+        },
     }
 }

@@ -1,22 +1,23 @@
-use Rattle.std.proofs.Common.{◌≡◌, ap, ap₂, sym, ◌∙◌, List, subst, inl, inr}
-use Rattle.std.specs.Prelude.{Option, Some, None}
-use Rattle.std.specs.List.Sorted.{IsPermutation}
+use Rattle.std.proofs.Common.{◌≡◌, ap, sym, ◌∙◌, List, subst}
 use Rattle.card_piles.specs.declared.Card.{Card}
 use Rattle.game_rules.specs.declared.RuleParts.{RuleParts}
-use Rattle.game_rules.specs.declared.BoardParts.{BoardParts}
-use Rattle.game_rules.specs.declared.BoardFault.{BoardFault}
-use Rattle.game_rules.specs.Position.{board_of_parts, parts_of, fault_of}
-use Rattle.game_rules.proofs.BelongingExactly.{board-of_its_parts, parts-have_no_fault}
+use Rattle.game_rules.specs.Position.{parts_of}
 use Rattle.seed_deal.specs.Layout.{board_of_deck}
-use Rattle.seed_deal.specs.Seeds.{seed_board}
-use Rattle.seed_deal.specs.Shuffle.{deck_in_order, shuffled_deck}
 use Rattle.seed_deal.specs.Starts.{HasStart}
-use Rattle.seed_deal.proofs.Dealt.{dealt-belongs}
+use Rattle.seed_deal.proofs.Dealt.{dealt-belongs, dealt_board, memory_alone}
 use Rattle.seed_deal.proofs.deal.deal_from_seed.Goals as goal
 
 pub returns-in-Ok-clause-board : goal.returns-in-Ok-clause-board
-unfolding seed_board
-returns-in-Ok-clause-board c = ?
+returns-in-Ok-clause-board c =
+    let start = subst (λ (r : RuleParts). HasStart r.goal) c.parts.ensures.value c.read_start.ensures in
+    let belongs = dealt-belongs c.args.rules.now c.in_ok-deck.deck.items c.parts.ensures.playable c.in_ok-deck.ensures.cards start (sym c.seed_fault.ensures ∙ c.in_default.is) in
+    let is = c.in_ok-parts.ensures ∙ ap (λ (d : List Card). parts_of c.args.rules.now (board_of_deck c.args.rules.now d)) c.as_slice.ensures.value in
+    dealt_board c.args.rules.now c.in_ok-deck.deck.items c.args.seed c.in_ok-parts.parts c.in-Ok.board belongs is c.in-Ok.ensures.board c.in_ok-deck.ensures.deck
 
 pub unreachable-requires : goal.unreachable-requires
-unreachable-requires c = ?
+unreachable-requires c =
+    let start = subst (λ (r : RuleParts). HasStart r.goal) c.parts.ensures.value c.read_start.ensures in
+    let belongs = dealt-belongs c.args.rules.now c.in_ok-deck.deck.items c.parts.ensures.playable c.in_ok-deck.ensures.cards start (sym c.seed_fault.ensures ∙ c.in_default.is) in
+    let is = c.in_ok-parts.ensures ∙ ap (λ (d : List Card). parts_of c.args.rules.now (board_of_deck c.args.rules.now d)) c.as_slice.ensures.value in
+    let memory = memory_alone c.args.rules.now c.in_ok-deck.deck.items c.in_ok-parts.parts c.in-Err.fault belongs is c.in-Err.ensures.fault in
+    ?
