@@ -170,7 +170,7 @@ lengths-of rules deck playable deals there fits =
     let total : length deck ≡ cards_in_decks rules = deals.long ∙ product-turned rules.decks rules.max_rank in
     let left = named_left rules deck (is_started rules.goal) refl there in
     let second = length-beside_hole rules.goal (after_foundations rules deck) left (omega (arith, first, total, fits.enough)) in
-    record { beside = omega (arith, first, second); total = total; }
+    record { beside = omega (arith, first, second); total = total }
 
 -- No card is lost.
 
@@ -413,8 +413,14 @@ few-first rules deck = few-staying deck (base_of rules.goal) (is_started rules.g
 
 pub few-left : (rules : RuleParts) (deck : List Card) → length (after_stock rules deck) ≤ length deck
 few-left rules deck =
-    omega (arith, few-staying deck (base_of rules.goal) (is_started rules.goal), few-beside rules.goal (after_foundations rules deck),
-    length-drop rules.cells_filled (after_hole rules deck), length-drop rules.reserve (after_cells rules deck), length-drop rules.stock (after_reserve rules deck))
+    omega (
+      arith,
+      few-staying deck (base_of rules.goal) (is_started rules.goal),
+      few-beside rules.goal (after_foundations rules deck),
+      length-drop rules.cells_filled (after_hole rules deck),
+      length-drop rules.reserve (after_cells rules deck),
+      length-drop rules.stock (after_reserve rules deck),
+    )
 
 -- The parts of the board, one by one.
 

@@ -36,8 +36,13 @@ sum-suits f m =
     let last : List Card = suit_in_order m Spades ++ [] in
     let three : List Card = suit_in_order m Hearts ++ last in
     let two : List Card = suit_in_order m Diamonds ++ three in
-    omega (arith, sum_by-append f (suit_in_order m Clubs) two, sum_by-append f (suit_in_order m Diamonds) three,
-    sum_by-append f (suit_in_order m Hearts) last, sum_by-append f (suit_in_order m Spades) [])
+    omega (
+      arith,
+      sum_by-append f (suit_in_order m Clubs) two,
+      sum_by-append f (suit_in_order m Diamonds) three,
+      sum_by-append f (suit_in_order m Hearts) last,
+      sum_by-append f (suit_in_order m Spades) [],
+    )
 
 -- a sum over a suit is a sum over its places
 sum-mapped : {A B : Type 0} (g : B → ℕ) (h : A → B) (xs : List A) → sum_by g (map h xs) ≡ sum_by (λ x. g (h x)) xs

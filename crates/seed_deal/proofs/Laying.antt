@@ -136,7 +136,7 @@ pub laid_on-empty : (order : List ℕ) (piles : List (List Card)) → laid_on or
 laid_on-empty [] piles = refl
 laid_on-empty (i ∷ order) piles = refl
 
-drop-empty : (n : ℕ) → drop n [] ≡ []
+drop-empty : (n : ℕ) → drop {A = Card} n [] ≡ []
 drop-empty zero = refl
 drop-empty (suc n) = refl
 
@@ -194,11 +194,10 @@ rows-end count row cards piles whole deck start past lays =
 
 pub cards-end : (order : List ℕ) (cards : List Card) (piles : List (List Card)) (whole : List ℕ) (deck : List Card) (start : List (List Card)) → cards ≡ []
     → LaysAs order cards piles whole deck start → (piles ≡ laid_on whole deck start) × (cards ≡ drop (length whole) deck)
-cards-end order cards piles whole deck start none lays =
-    (
-      sym (ap (λ (c : List Card). laid_on order c piles) none ∙ laid_on-empty order piles) ∙ lays.laid,
-      none ∙ sym (ap (λ (c : List Card). drop (length order) c) none ∙ drop-empty (length order)) ∙ lays.rest,
-    )
+cards-end order cards piles whole deck start none lays = (
+  sym (ap (λ (c : List Card). laid_on order c piles) none ∙ laid_on-empty order piles) ∙ lays.laid,
+  none ∙ sym (ap (λ (c : List Card). drop (length order) c) none ∙ drop-empty (length order)) ∙ lays.rest,
+)
 
 -- one card more in turn
 pub drop-next : {A : Type 0} (xs : List A) (i : ℕ) (d : A) → i < length xs → drop i xs ≡ get_or xs i d ∷ drop (i + 1) xs

@@ -128,8 +128,18 @@ eight_homes : (rules : RuleParts) (card : Card) (heights : List ℕ) → heights
 eight_homes rules card heights is =
     let at_first : Bool = card.rank == ((base_of rules.goal - 1) + 0) % rules.max_rank + 1 in
     ap (copies_at_home rules card) is
-    ∙ omega (arith, one_home rules card 0 7, one_home rules card 1 6, one_home rules card 2 5, one_home rules card 3 4, one_home rules card 4 3,
-    one_home rules card 5 2, one_home rules card 6 1, one_home rules card 7 0, four_firsts card.suit at_first)
+    ∙ omega (
+      arith,
+      one_home rules card 0 7,
+      one_home rules card 1 6,
+      one_home rules card 2 5,
+      one_home rules card 3 4,
+      one_home rules card 4 3,
+      one_home rules card 5 2,
+      one_home rules card 6 1,
+      one_home rules card 7 0,
+      four_firsts card.suit at_first,
+    )
 
 pub home-started : (rules : RuleParts) (card : Card) → 1 ≤ rules.decks → rules.decks ≤ 2 → 1 ≤ base_of rules.goal → base_of rules.goal ≤ rules.max_rank
     → copies_at_home rules card (replicate (4 * rules.decks) 1) ≡ rules.decks * once (card.rank == base_of rules.goal)

@@ -64,7 +64,11 @@ fn cards_needed(rules: &Rules) -> u16
     } else {
         0
     };
-    let in_hole = if matches!(rules.goal(), Goal::Hole { .. }) { 1 } else { 0 };
+    let in_hole = if matches!(rules.goal(), Goal::Hole { .. }) {
+        1
+    } else {
+        0
+    };
     on_foundations
         + in_hole
         + u16::from(rules.cells_filled())

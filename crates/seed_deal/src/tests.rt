@@ -2,7 +2,9 @@
 
 use super::*;
 use card_piles::{Build, Card, card_of};
-use game_model::{Face, Goal, Groups, HoleStart, Layout, Redeals, RuleParts, Rules, Spaces, Target};
+use game_model::{
+    Face, Goal, Groups, HoleStart, Layout, Redeals, RuleParts, Rules, Spaces, Target,
+};
 use rand_core::Rng;
 use rand_pcg::Lcg64Xsh32;
 
@@ -48,13 +50,14 @@ fn the_words_are_those_of_the_generator(rt: HostRuntime) {
 
 #[test]
 fn the_aces_of_seed_42(rt: HostRuntime) {
-    let rules = Rules::new(RuleParts {
-        piles: 1,
-        ..aces()
-    })
-    .expect(&rt, "rules");
+    let rules = Rules::new(RuleParts { piles: 1, ..aces() }).expect(&rt, "rules");
     let board = deal_from_seed(rt.alloc(), &rules, 42).expect(&rt, "a board");
-    let aces = [card_of(b"AC"), card_of(b"AS"), card_of(b"AD"), card_of(b"AH")];
+    let aces = [
+        card_of(b"AC"),
+        card_of(b"AS"),
+        card_of(b"AD"),
+        card_of(b"AH"),
+    ];
     assert!(rt; rules.piles() == 1);
     for (place, ace) in aces.iter().enumerate() {
         assert!(rt; board.pile(0).get(place).copied() == *ace);
@@ -70,5 +73,7 @@ fn a_stock_takes_all_cards_or_none_fits(rt: HostRuntime) {
     assert!(rt; deal_from_seed(rt.alloc(), &three, 0).err() == Some(SeedFault::TooManyCards));
     let four = rules(4).expect(&rt, "rules");
     let board = deal_from_seed(rt.alloc(), &four, 42).expect(&rt, "a board");
-    assert!(rt; board.stock().len() == 4 && board.stock()[1] == card_of(b"AS").expect(&rt, "an ace"));
+    assert!(rt;
+        board.stock().len() == 4 && board.stock()[1] == card_of(b"AS").expect(&rt, "an ace")
+    );
 }

@@ -61,7 +61,6 @@ limits-with_value at Nodes given more word given_within h =
     let limits = limits-number_at at 1 1000000000000 n word is_number in
     let same : record given { nodes = Some n } ≡ more = cc in
     subst AreWithin same (given_within.0, given_within.1, limits.0, limits.1)
-
 limits-with_value at Seed given more word given_within h =
     let (n, is_number, rest) = ok_before (number_at at (number_within 0 18446744073709551615 word)) _ more h in
     let same : record given { seed = Some n } ≡ more = cc in

@@ -22,7 +22,9 @@ pub enum Job {
     /// Replays the line from the deal under the rules.
     Replay,
     /// Prints the position that the seed deals under the rules.
-    Deal { seed: u64 },
+    Deal {
+        seed: u64,
+    },
     /// Prints the rules in their one spelling.
     Rules,
 }

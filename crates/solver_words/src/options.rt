@@ -83,12 +83,7 @@ impl Options {
 }
 
 // The option of the word at the place, unless it is unknown or was given.
-fn read_kind(
-    taker: Taker,
-    at: u32,
-    word: &str,
-    given: &Options,
-) -> Result<Kind, WordFault>
+fn read_kind(taker: Taker, at: u32, word: &str, given: &Options) -> Result<Kind, WordFault>
     ensures { result ≡ kind_at taker at word.now given.now }
 {
     let Some(kind) = kind_of(taker, word) else {

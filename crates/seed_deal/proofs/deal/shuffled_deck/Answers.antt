@@ -1,6 +1,8 @@
-use Rattle.std.proofs.Common.{◌≡◌, ap, ap₂, sym, ◌∙◌, length, arith}
+use Rattle.std.proofs.Common.{◌≡◌, List, ◌++◌, take, drop, ap, ap₂, sym, ◌∙◌, length, arith, take_all, append-nil}
+use Rattle.std.proofs.lemmas.List.{drop_all}
 use Rattle.std.proofs.lemmas.List.Sorted.{length_permutation}
-use Rattle.seed_deal.specs.Shuffle.{deck_in_order, shuffled_deck}
+use Rattle.card_piles.specs.declared.Card.{Card}
+use Rattle.seed_deal.specs.Shuffle.{deck_in_order, shuffled, shuffled_deck, words_of}
 use Rattle.seed_deal.proofs.Decks.{few-in_order}
 use Rattle.seed_deal.proofs.deal.shuffled_deck.Goals as goal
 
@@ -10,10 +12,3 @@ shuffle-requires c =
     let deck = ap length c.in_ok-deck.ensures in
     let slice = ap length c.as_mut_slice.ensures.value in
     omega (arith, few, deck, slice)
-
-pub returns-clause-deck : goal.returns-clause-deck
-unfolding shuffled_deck
-returns-clause-deck c = ?
-
-pub returns-clause-few : goal.returns-clause-few
-returns-clause-few c = ?

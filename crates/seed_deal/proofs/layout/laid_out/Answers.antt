@@ -24,9 +24,21 @@ face_down_of-requires c =
     let hole = ap length c.in_ok-hole.ensures.beside in
     let stays = ap length c.in_ok-deck.ensures in
     omega (
-      arith, tableau, few, third, second, first, deck, hole, stays, c.requires.few,
-      length-drop c.from-3.result c.split-2.result.1.now, length-drop c.from-2.result c.split.result.1.now, length-drop c.from.result c.as_slice.result.now,
-      few-beside c.parts.result.goal c.in_ok-deck.deck.items, few-first c.args.rules.now c.args.deck.now,
+      arith,
+      tableau,
+      few,
+      third,
+      second,
+      first,
+      deck,
+      hole,
+      stays,
+      c.requires.few,
+      length-drop c.from-3.result c.split-2.result.1.now,
+      length-drop c.from-2.result c.split.result.1.now,
+      length-drop c.from.result c.as_slice.result.now,
+      few-beside c.parts.result.goal c.in_ok-deck.deck.items,
+      few-first c.args.rules.now c.args.deck.now,
     )
 
 pub cells_with-requires : goal.cells_with-requires
