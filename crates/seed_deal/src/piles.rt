@@ -35,6 +35,7 @@ fn lay_rows<'a>(
 ) -> Result<&'a [Card], AllocError>
     requires { length tableau.old.items ≡ piles }
     ensures laid { OnOk result (tableau.new.items ≡ laid_on (triangle_order Layout.Triangle piles) cards.now tableau.old.items) }
+    ensures all { OnOk result (length tableau.new.items ≡ piles) }
     ensures rest { IfOk result (λ rest. rest.now ≡ drop (length (triangle_order Layout.Triangle piles)) cards.now) }
 {
     let mut rest = cards;

@@ -46,10 +46,8 @@ cells_with-requires c =
     let front = ap length c.split.ensures.front in
     let cut = length-take c.from.result c.as_slice.result.now in
     let n = c.from.ensures ∙ c.cells_filled.ensures in
-    let few = few_filled c.parts.result c.parts.ensures.playable in
-    let filled_is = ap (λ (r : RuleParts). r.cells_filled) c.parts.ensures.value in
-    let cells_is = ap (λ (r : RuleParts). r.cells) c.parts.ensures.value in
-    omega (arith, front, cut, n, few, filled_is, cells_is, c.cells.ensures)
+    let few = few_filled c.args.rules.now c.parts.ensures.playable in
+    omega (arith, front, cut, n, few, c.cells.ensures)
 
 pub returns : goal.returns
 returns c =

@@ -12,8 +12,8 @@ loop-pile-init c = record {
 
 pub loop-pile-preserved : goal.loop-pile-preserved
 loop-pile-preserved c = record {
-  all = length-grown _ _ _ _ c.in_ok-lay_on.ensures ∙ c.loop-pile.invariant.all;
-  lays = row-more c.args.piles c.loop-row.row c.loop-pile.pile _ _ _ _ _ _ _ _ (omega arith) c.in-Some.ensures.cases.0 c.in_ok-lay_on.ensures c.loop-pile.invariant.lays;
+  all = length-grown _ _ _ _ c.in_ok-lay_on.ensures.laid ∙ c.loop-pile.invariant.all;
+  lays = row-more c.args.piles c.loop-row.row c.loop-pile.pile _ _ _ _ _ _ _ _ (omega arith) c.in-Some.ensures.cases.0 c.in_ok-lay_on.ensures.laid c.loop-pile.invariant.lays;
 }
 
 pub loop-row-preserved : goal.loop-row-preserved
