@@ -20,4 +20,4 @@ unreachable-requires c =
     let belongs = dealt-belongs c.args.rules.now c.in_ok-deck.deck.items c.parts.ensures.playable c.in_ok-deck.ensures.cards start (sym c.seed_fault.ensures ∙ c.in_default.is) in
     let is = c.in_ok-parts.ensures ∙ ap (λ (d : List Card). parts_of c.args.rules.now (board_of_deck c.args.rules.now d)) c.as_slice.ensures.value in
     let memory = memory_alone c.args.rules.now c.in_ok-deck.deck.items c.in_ok-parts.parts c.in-Err.fault belongs is c.in-Err.ensures.fault in
-    ?
+    c.in_default-fault.not-Memory memory
