@@ -1,4 +1,4 @@
-use Rattle.std.proofs.Common.{◌≡◌, ◌∙◌, ◌+◌, sym, arith}
+use Rattle.std.proofs.Common.{◌≡◌, ◌∙◌, ◌+◌, ℕ, [], ◌∷◌, ◌++◌, ap, set, get_or, sym, arith}
 use Rattle.game_rules.specs.declared.Layout.TheVariants.{Triangle}
 use Rattle.seed_deal.specs.Layout.{triangle_order}
 use Rattle.seed_deal.proofs.Laying.{lays_same, rows_from, row_from, row-begins, row-more, row-ends, rows-end, cards-end, length-grown}
@@ -13,7 +13,9 @@ loop-pile-init c = record {
 pub loop-pile-preserved : goal.loop-pile-preserved
 loop-pile-preserved c = record {
   all = length-grown _ _ _ _ c.in_ok-lay_on.ensures.laid ∙ c.loop-pile.invariant.all;
-  lays = row-more c.args.piles c.loop-row.row c.loop-pile.pile _ _ _ _ _ _ _ _ (omega arith) c.in-Some.ensures.cases.0 c.in_ok-lay_on.ensures.laid c.loop-pile.invariant.lays;
+  lays = row-more c.args.piles c.loop-row.row c.loop-pile.pile _ _ _ _ _ _ _ _ (omega arith) c.in-Some.ensures.cases.0
+      (c.in_ok-lay_on.ensures.laid ∙ ap (λ (p : ℕ). set c.loop-pile.tableau.items p (get_or c.loop-pile.tableau.items p [] ++ c.in-Some.card.now ∷ [])) c.from.ensures)
+      c.loop-pile.invariant.lays;
 }
 
 pub loop-row-preserved : goal.loop-row-preserved
