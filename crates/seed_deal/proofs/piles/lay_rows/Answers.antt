@@ -1,0 +1,25 @@
+use Rattle.std.proofs.Common.{◌≡◌, ◌∙◌, ◌+◌, ℕ, [], ◌∷◌, ◌++◌, ap, set, get_or, sym, arith}
+use Rattle.game_rules.specs.declared.Layout.TheVariants.{Triangle}
+use Rattle.seed_deal.specs.Layout.{triangle_order}
+use Rattle.seed_deal.proofs.Laying.{lays_same, rows_from, row_from, row-begins, row-more, row-ends, rows-end, cards-end, length-grown}
+use Rattle.seed_deal.proofs.piles.lay_rows.Goals as goal
+
+pub loop-pile-init : goal.loop-pile-init
+loop-pile-init c = record {
+  all = c.loop-row.invariant.all;
+  lays = lays_same _ _ _ _ _ _ _ (row-begins c.args.piles c.loop-row.row (omega arith)) c.loop-row.invariant.lays;
+}
+
+pub loop-pile-preserved : goal.loop-pile-preserved
+loop-pile-preserved c = record {
+  all = length-grown _ _ _ _ c.in_ok-lay_on.ensures.laid ∙ c.loop-pile.invariant.all;
+  lays = row-more c.args.piles c.loop-row.row c.loop-pile.pile _ _ _ _ _ _ _ _ (omega arith) c.in-Some.ensures.cases.0
+      (c.in_ok-lay_on.ensures.laid ∙ ap (λ (p : ℕ). set c.loop-pile.tableau.items p (get_or c.loop-pile.tableau.items p [] ++ c.in-Some.card.now ∷ [])) c.from.ensures)
+      c.loop-pile.invariant.lays;
+}
+
+pub loop-row-preserved : goal.loop-row-preserved
+loop-row-preserved c = record {
+  all = c.loop-pile.invariant.all;
+  lays = lays_same _ _ _ _ _ _ _ (row-ends c.args.piles c.loop-row.row c.loop-pile.pile (omega arith)) c.loop-pile.invariant.lays;
+}
