@@ -14,8 +14,8 @@ loop-made-preserved c =
     let has = c.requires.so_many in
     let next : IsNextByStock rules (cut_at c.loop-made.border board) (after_stock_moves rules (suc made) board) =
     rw c.loop-made.invariant.0 (has.each made below) in
-    let step = cut-next rules c.loop-made.border c.moved.result board (after_stock_moves rules (suc made) board) _
+    let step = cut-next rules c.loop-made.border c.moved-border.result board (after_stock_moves rules (suc made) board) _
     (has.to_waste (omega (arith, below))) c.loop-made.invariant.1
-    (rw (c.stock.ensures.value, c.waste.ensures.value) (sym (length-queue board))) next c.moved.ensures.deals c.moved.ensures.redeals in
+    (rw (c.stock.ensures.value, c.waste.ensures.value) (sym (length-queue board))) next c.moved-border.ensures.deals c.moved-border.ensures.redeals in
     let one : suc made ≡ made + 1 = omega arith in
     (step.0 ∙ ap (λ (n : ℕ). after_stock_moves rules n board) one, step.1)

@@ -9,5 +9,5 @@ deal_to_waste-requires c =
 
 pub returns : goal.returns
 returns c =
-    ap (λ (b : Board). record b { redeals_left = c.args.border.redeals_left }) c.deal_to_waste.ensures.dealt
+    ap (λ (b : Board). record b { redeals_left = c.args.border.redeals_left }) (c.self.view_is ∙ c.deal_to_waste.ensures.dealt)
     ∙ cut-down c.args.border c.args.self.now _ c.requires.below (rw c.stock.ensures.value)

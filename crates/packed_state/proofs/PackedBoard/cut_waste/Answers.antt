@@ -1,4 +1,4 @@
-use Rattle.std.proofs.Common.{ap, ◌∙◌, arith}
+use Rattle.std.proofs.Common.{ℕ, ◌+◌, ◌-◌, length, ap, ◌∙◌, arith}
 use Rattle.std.proofs.lemmas.Bool.{le-leb}
 use Rattle.game_rules.specs.Board.{Board}
 use Rattle.game_rules.proofs.ListFacts.{and_both}
@@ -9,11 +9,13 @@ pub undeal-requires : goal.undeal-requires
 undeal-requires c =
     let fits = can-cut c.args.border c.args.self.now c.requires.fits in
     let long = length-queue c.args.self.now in
-    and_both _ _ (le-leb _ _ (omega (arith, fits.0, long, c.stock.ensures.value)))
-    (le-leb _ 104 (omega (arith, fits.0, fits.1, c.stock.ensures.value)))
+    let same = ap length c.stock.ensures.value in
+    let count : ℕ = c.args.border.stock - length c.stock.result.now in
+    and_both _ _ (le-leb count (length c.args.self.now.waste) (omega (arith, fits.0, long, same)))
+    (le-leb (length c.args.self.now.stock + count) 104 (omega (arith, fits.0, fits.1, c.requires.above, same)))
 
 pub returns : goal.returns
 returns c =
     let fits = can-cut c.args.border c.args.self.now c.requires.fits in
-    ap (λ (b : Board). record b { redeals_left = c.args.border.redeals_left }) c.undeal.ensures
+    ap (λ (b : Board). record b { redeals_left = c.args.border.redeals_left }) (c.self.view_is ∙ c.undeal.ensures)
     ∙ cut-up c.args.border c.args.self.now _ c.requires.above fits.0 (rw c.stock.ensures.value)
