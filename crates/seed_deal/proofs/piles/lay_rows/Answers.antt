@@ -1,4 +1,5 @@
 use Rattle.std.proofs.Common.{◌≡◌, ◌∙◌, ◌+◌, ℕ, [], ◌∷◌, ◌++◌, ap, set, get_or, sym, arith}
+use Rattle.std.proofs.lemmas.List.{nil_from_length}
 use Rattle.game_rules.specs.declared.Layout.TheVariants.{Triangle}
 use Rattle.seed_deal.specs.Layout.{triangle_order}
 use Rattle.seed_deal.proofs.Laying.{lays_same, rows_from, row_from, row-begins, row-more, row-ends, rows-end, cards-end, length-grown}
@@ -23,3 +24,8 @@ loop-row-preserved c = record {
   all = c.loop-pile.invariant.all;
   lays = lays_same _ _ _ _ _ _ _ (row-ends c.args.piles c.loop-row.row c.loop-pile.pile (omega arith)) c.loop-pile.invariant.lays;
 }
+
+pub returns-in_default-clause-laid : goal.returns-in_default-clause-laid
+returns-in_default-clause-laid c =
+    let none = nil_from_length c.loop-pile.rest.now c.in_default.ensures.cases in
+    (cards-end _ _ _ _ _ _ none c.loop-pile.invariant.lays).0
