@@ -26,11 +26,11 @@ borrowed len deck slice new all same moved =
     ∙ take_all len new (omega (arith, long, lent, all))
 
 pub returns-clause-deck : goal.returns-clause-deck
+unfolding shuffled_deck
 returns-clause-deck c =
     let back = borrowed _ _ _ _ c.in_ok-deck.deck.ok.0 c.as_mut_slice.ensures.value c.shuffle.ensures.cards in
     let words = ap (λ (w : Lcg). shuffled (stream_of (steps_u32 pcg32) w) (length c.as_mut_slice.result.now - 1) c.as_mut_slice.result.now) c.new-words.ensures in
     let deck = c.as_mut_slice.ensures.value ∙ c.in_ok-deck.ensures in
-    unfolding shuffled_deck in
     back ∙ c.shuffle.ensures.order ∙ words ∙ ap (λ (xs : List Card). shuffled (words_of c.args.seed) (length xs - 1) xs) deck
 
 pub returns-clause-few : goal.returns-clause-few

@@ -1,7 +1,8 @@
-use Rattle.std.proofs.Common.{◌≡◌, ◌∙◌, ◌+◌, ℕ, [], ◌∷◌, ◌++◌, ap, set, get_or, sym, arith}
+use Rattle.std.proofs.Common.{◌≡◌, ◌∙◌, ◌+◌, ◌-◌, ℕ, [], ◌∷◌, ◌++◌, ap, set, get_or, sym, arith}
+use Rattle.std.specs.List.{flat_map, range_with_len}
 use Rattle.std.proofs.lemmas.List.{nil_from_length}
 use Rattle.game_rules.specs.declared.Layout.TheVariants.{Triangle}
-use Rattle.seed_deal.specs.Layout.{triangle_order}
+use Rattle.seed_deal.specs.Layout.{laid_on, triangle_order}
 use Rattle.seed_deal.proofs.Laying.{lays_same, rows_from, row_from, row-begins, row-more, row-ends, rows-end, cards-end, length-grown}
 use Rattle.seed_deal.proofs.piles.lay_rows.Goals as goal
 
@@ -28,4 +29,7 @@ loop-row-preserved c = record {
 pub returns-in_default-clause-laid : goal.returns-in_default-clause-laid
 returns-in_default-clause-laid c =
     let none = nil_from_length c.loop-pile.rest.now c.in_default.ensures.cases in
+    let piles : ℕ = c.args.piles in
+    let whole : piles - 0 ≡ piles = omega arith in
     (cards-end _ _ _ _ _ _ none c.loop-pile.invariant.lays).0
+    ∙ ap (λ (n : ℕ). laid_on (flat_map (λ (row : ℕ). range_with_len row (piles - row)) (range_with_len 0 n)) c.args.cards.now c.args.tableau.now.items) whole
