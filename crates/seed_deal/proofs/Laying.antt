@@ -231,3 +231,12 @@ row-more count row pile card rest others piles grown whole deck start inside nex
 
 pub length-grown : (piles grown : List (List Card)) (pile : ℕ) (cards : List Card) → grown ≡ set piles pile cards → length grown ≡ length piles
 length-grown piles grown pile cards put = ap length put ∙ length-set piles pile cards
+
+-- with no pile nothing is laid, of whatever layout
+pub piles_laid-none : (layout : Layout) (piles : ℕ) (cards : List Card) → piles ≤ 0 → piles_laid layout piles cards ≡ replicate piles []
+piles_laid-none layout zero cards none =
+    let rows : List ℕ = triangle_order layout 0 in
+    let rest : List Card = drop (length rows) cards in
+    let order : List ℕ = round_order 0 (length rest) in
+    ap (λ (piles : List (List Card)). laid_on order rest piles) (laid_on-none rows cards) ∙ laid_on-none order rest
+piles_laid-none layout (suc n) cards none = absurd (omega (arith, none))
