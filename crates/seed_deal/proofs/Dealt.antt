@@ -1,14 +1,13 @@
 -- The board of a deck belongs to the rules.
-use Rattle.std.proofs.Common.{◌≡◌, ◌⊎◌, ℕ, ◌+◌, ◌*◌, ◌-◌, ◌<◌, ◌≤◌, zero, suc, Bool, true, false, ◌&&◌, ◌||◌, not, List, [], ◌∷◌, map, length, take, drop, replicate, min, refl, ap, sym, ◌∙◌, arith, inl, inr, length-take, length-drop}
+use Rattle.std.proofs.Common.{◌≡◌, ◌⊎◌, ℕ, ◌+◌, ◌*◌, ◌-◌, ◌≤◌, zero, suc, Bool, true, false, ◌&&◌, ◌||◌, not, List, [], ◌∷◌, map, length, take, replicate, min, refl, ap, sym, ◌∙◌, arith, inl, inr, length-take, length-drop}
 use Rattle.std.specs.Prelude.{cond, Option, Some, None, IsTrue, ◌==◌, nat_lt, nat_le, is_some, if◌then◌else◌}
-use Rattle.std.specs.List.{sum_by, count_by, filter, list_all, range_with_len}
+use Rattle.std.specs.List.{sum_by, filter, list_all, range_with_len}
 use Rattle.std.specs.List.Sorted.{IsPermutation}
 use Rattle.std.proofs.lemmas.List.{length-map, length-replicate}
-use Rattle.std.proofs.lemmas.List.Sums.{sum_by-cons, sum_by-append}
-use Rattle.std.proofs.lemmas.Bool.{ltb-true, ltb-false, lt-ltb, leb-true, le-leb, eq-eqb, ne_eqb, eqb-true, cases_eq, cases_Bool, and_parts}
+use Rattle.std.proofs.lemmas.List.Sums.{sum_by-cons}
+use Rattle.std.proofs.lemmas.Bool.{ltb-false, le-leb, eq-eqb, ne_eqb, eqb-true, cases_eq}
 use Rattle.std.proofs.lemmas.Bool.Decides.{nat_tests}
 use Rattle.card_piles.specs.declared.Card.{Card}
-use Rattle.card_piles.specs.Cards.{IsRank}
 use Rattle.game_rules.specs.declared.RuleParts.{RuleParts}
 use Rattle.game_rules.specs.declared.Face.{Face}
 use Rattle.game_rules.specs.declared.Face.TheVariants.{AllUp, TopUp}
@@ -22,7 +21,7 @@ use Rattle.game_rules.specs.Conflicts.{IsPlayable, HasLimits, has_base_above, ha
 use Rattle.game_rules.specs.Board.{Board, Pile}
 use Rattle.game_rules.specs.Play.{is_empty}
 use Rattle.game_rules.specs.Belonging.{Belongs, lies_well, foundation_count, slot_count, most_redeals, copies_of, copies_in, copies_in_piles, same_card, copies_at_home, copies_on, copies_due}
-use Rattle.game_rules.specs.Position.{filled, parts_of, board_of_parts, fault_of, row_count}
+use Rattle.game_rules.specs.Position.{parts_of, board_of_parts, fault_of, row_count}
 use Rattle.game_rules.specs.declared.BoardFault.{BoardFault}
 use Rattle.game_rules.specs.declared.BoardFault.TheVariants.{Memory}
 use Rattle.game_rules.proofs.BelongingExactly.{board-of_its_parts, parts-have_no_fault}

@@ -1,20 +1,18 @@
 -- What a deck in order holds.
-use Rattle.std.proofs.Common.{◌≡◌, ℕ, ◌+◌, ◌*◌, ◌<◌, ◌≤◌, zero, suc, Bool, true, false, ◌&&◌, List, [], ◌∷◌, ◌++◌, map, length, refl, ap, ap₂, sym, ◌∙◌, arith, inl, inr, mul-le-mul_left}
-use Rattle.std.specs.Prelude.{IsTrue, ◌==◌, nat_le, cond}
+use Rattle.std.proofs.Common.{◌≡◌, ℕ, ◌+◌, ◌*◌, ◌<◌, ◌≤◌, zero, suc, Bool, true, false, ◌&&◌, List, [], ◌∷◌, ◌++◌, map, length, refl, ap, sym, ◌∙◌, arith, inl, inr, mul-le-mul_left}
+use Rattle.std.specs.Prelude.{◌==◌, nat_le, cond}
 use Rattle.std.specs.List.{sum_by, count_by, flat_map, range_with_len}
 use Rattle.std.proofs.lemmas.List.Sums.{sum_by-append, sum_by-cons, sum_by_push}
 use Rattle.std.proofs.lemmas.List.FromFn.{length-map-range_with_len}
-use Rattle.std.proofs.lemmas.List.Sorted.{sum_by-IsPermutation, length_permutation}
+use Rattle.std.proofs.lemmas.List.Sorted.{sum_by-IsPermutation}
 use Rattle.std.specs.List.Sorted.{IsPermutation}
 use Rattle.std.proofs.lemmas.Bool.{eq-eqb, ne_eqb, le-leb, lt-leb, cases_lt, cases_order, and_from, and_left, and_right}
 use Rattle.std.proofs.lemmas.Bool.Decides.{nat_tests}
 use Rattle.card_piles.specs.declared.Card.{Card}
 use Rattle.card_piles.specs.declared.Suit.{Suit}
 use Rattle.card_piles.specs.declared.Suit.TheVariants.{Clubs, Diamonds, Hearts, Spades}
-use Rattle.card_piles.specs.Cards.{place_of}
 use Rattle.card_piles.specs.Builds.{same_suit}
 use Rattle.game_rules.specs.declared.RuleParts.{RuleParts}
-use Rattle.game_rules.specs.Board.{suit_at}
 use Rattle.game_rules.specs.Conflicts.{HasLimits}
 use Rattle.game_rules.specs.Belonging.{same_card, copies_of}
 use Rattle.game_rules.proofs.FewCards.{once, sum_by-same}

@@ -1,12 +1,12 @@
 -- Cards laid on piles: each is there once, and no pile more or less.
-use Rattle.std.proofs.Common.{◌≡◌, ℕ, ◌+◌, ◌*◌, ◌-◌, ◌%◌, ◌<◌, ◌≤◌, zero, suc, Bool, true, false, ◌&&◌, List, [], ◌∷◌, ◌++◌, map, length, take, drop, replicate, get_or, set, refl, ap, sym, ◌∙◌, arith, inl, inr, length-set, length-drop, mod-lt, take_all, length-append}
-use Rattle.std.specs.Prelude.{IsTrue, nat_lt, cond}
+use Rattle.std.proofs.Common.{◌≡◌, ℕ, ◌+◌, ◌*◌, ◌-◌, ◌%◌, ◌<◌, ◌≤◌, zero, suc, Bool, List, [], ◌∷◌, ◌++◌, map, length, take, drop, replicate, get_or, set, refl, ap, sym, ◌∙◌, arith, length-set, mod-lt, take_all}
+use Rattle.std.specs.Prelude.{IsTrue, nat_lt}
 use Rattle.std.specs.List.{sum_by, list_all, flat_map, range_with_len}
 use Rattle.std.proofs.lemmas.List.{length-map, length-replicate, take-append-drop}
 use Rattle.std.proofs.lemmas.List.Sums.{sum_by-append, sum_by-cons, sum_by-set}
 use Rattle.std.proofs.lemmas.List.Folds.{list_all-append, list_all-map, sum_by-replicate}
 use Rattle.std.proofs.lemmas.List.FromFn.{length-range_with_len}
-use Rattle.std.proofs.lemmas.Bool.{ltb-true, lt-ltb, cases_lt, and_from, and_parts}
+use Rattle.std.proofs.lemmas.Bool.{ltb-true, lt-ltb, and_from, and_parts}
 use Rattle.card_piles.specs.declared.Card.{Card}
 use Rattle.game_rules.specs.declared.Layout.{Layout}
 use Rattle.game_rules.specs.declared.Layout.TheVariants.{Even, Triangle}

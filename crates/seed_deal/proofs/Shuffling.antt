@@ -1,5 +1,5 @@
 -- One exchange of a shuffle after the other.
-use Rattle.std.proofs.Common.{◌≡◌, ℕ, ◌-◌, ◌<◌, zero, suc, List, ap, sym, arith}
+use Rattle.std.proofs.Common.{◌≡◌, ℕ, ◌-◌, ◌<◌, zero, suc, List, ap, arith}
 use Rattle.std.specs.List.{swap}
 use Rattle.rand_core.specs.Stream.{Stream, next_u32}
 use Rattle.seed_deal.specs.Shuffle.{shuffled, chosen_place}

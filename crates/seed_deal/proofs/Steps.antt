@@ -1,24 +1,24 @@
 -- What each step of a layout takes and leaves: no card is lost, and none comes twice.
-use Rattle.std.proofs.Common.{◌≡◌, ℕ, ◌+◌, ◌*◌, ◌-◌, ◌%◌, ◌<◌, ◌≤◌, zero, suc, Bool, true, false, ◌&&◌, not, List, [], ◌∷◌, ◌++◌, map, length, take, drop, replicate, refl, ap, sym, ◌∙◌, arith, inl, inr, length-drop, length-append, mod-eq_of_lt}
-use Rattle.std.specs.Prelude.{cond, Option, Some, None, IsTrue, ◌==◌, nat_le, is_some, if◌then◌else◌}
-use Rattle.std.specs.List.{sum_by, count_by, filter, enumerate_from, range_with_len, list_all}
+use Rattle.std.proofs.Common.{◌≡◌, ℕ, ◌+◌, ◌*◌, ◌-◌, ◌%◌, ◌<◌, ◌≤◌, zero, suc, Bool, true, false, ◌&&◌, not, List, [], ◌∷◌, map, length, replicate, refl, ap, sym, ◌∙◌, arith, inl, inr, length-drop, mod-eq_of_lt}
+use Rattle.std.specs.Prelude.{cond, Option, Some, None, IsTrue, ◌==◌, is_some, if◌then◌else◌}
+use Rattle.std.specs.List.{sum_by, count_by, filter, enumerate_from, list_all}
 use Rattle.std.proofs.lemmas.List.Sums.{sum_by-cons, sum_by-append, length-filter}
 use Rattle.std.proofs.lemmas.Bool.{eq-eqb, ne_eqb, eqb-true, cases_eq, cases_Bool, and_parts}
 use Rattle.card_piles.specs.declared.Card.{Card}
 use Rattle.card_piles.specs.declared.Suit.{Suit}
 use Rattle.card_piles.specs.declared.Suit.TheVariants.{Clubs, Diamonds, Hearts, Spades}
-use Rattle.card_piles.specs.Cards.{place_of, IsRank}
+use Rattle.card_piles.specs.Cards.{place_of}
 use Rattle.card_piles.specs.Builds.{same_suit}
 use Rattle.game_rules.specs.declared.RuleParts.{RuleParts}
 use Rattle.game_rules.specs.declared.Goal.{Goal}
 use Rattle.game_rules.specs.declared.Goal.TheVariants.{Foundations, Hole, Sequences}
 use Rattle.game_rules.specs.declared.HoleStart.TheVariants.{Dealt, Named}
 use Rattle.game_rules.specs.Rules.{base_of, is_hole_goal}
-use Rattle.game_rules.specs.Board.{foundation_card, foundation_cards, suit_at}
+use Rattle.game_rules.specs.Board.{foundation_card, foundation_cards}
 use Rattle.game_rules.specs.Belonging.{same_card, holds, copies_of, copies_in, copies_at_home}
 use Rattle.game_rules.specs.Position.{filled}
 use Rattle.game_rules.proofs.Rooms.{suit-at_place, card-by_parts}
-use Rattle.game_rules.proofs.FewCards.{once, same_card-true}
+use Rattle.game_rules.proofs.FewCards.{once}
 use Rattle.game_rules.proofs.Copies.{copies-cons, copies-cut}
 use Rattle.seed_deal.specs.Layout.{without_first, dealt_hole, beside_hole, slot_for}
 

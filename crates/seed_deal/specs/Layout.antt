@@ -1,6 +1,6 @@
 -- How a shuffled deck is laid out, in seven steps. Cards are taken from the front of the deck, and the
 -- first card that is laid on a list lies at its bottom.
-use Rattle.std.specs.Prelude.{ℕ, ◌+◌, ◌*◌, ◌-◌, ◌/◌, ◌%◌, Bool, true, false, ◌==◌, not, List, [], ◌∷◌, ◌++◌, map, length, take, drop, replicate, Option, Some, None, slice_index_or, slice_set, if◌then◌else◌}
+use Rattle.std.specs.Prelude.{ℕ, ◌-◌, ◌%◌, ◌==◌, not, List, [], ◌∷◌, ◌++◌, map, length, take, drop, replicate, Option, Some, None, slice_index_or, slice_set, if◌then◌else◌}
 use Rattle.std.specs.List.{filter, flat_map, range_with_len}
 use Rattle.card_piles.specs.declared.Card.{Card}
 use Rattle.game_rules.specs.declared.RuleParts.{RuleParts}

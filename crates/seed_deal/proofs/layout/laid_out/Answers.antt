@@ -1,14 +1,13 @@
-use Rattle.std.proofs.Common.{◌≡◌, ℕ, List, [], map, take, drop, ap, ap₂, sym, ◌∙◌, length, arith, length-take, length-drop}
+use Rattle.std.proofs.Common.{◌≡◌, ℕ, List, map, take, drop, ap, ap₂, ◌∙◌, length, arith, length-take, length-drop}
 use Rattle.std.specs.Prelude.{Option, Some, None}
 use Rattle.std.specs.List.{sum_by}
 use Rattle.card_piles.specs.declared.Card.{Card}
 use Rattle.game_rules.specs.declared.RuleParts.{RuleParts}
-use Rattle.game_rules.specs.declared.Redeals.{Redeals}
 use Rattle.game_rules.specs.declared.Face.{Face}
 use Rattle.game_rules.specs.declared.Layout.{Layout}
 use Rattle.game_rules.specs.Belonging.{most_redeals}
 use Rattle.game_rules.specs.Position.{filled}
-use Rattle.seed_deal.specs.Layout.{after_hole, after_cells, after_reserve, after_stock, after_foundations, beside_hole, dealt_hole, piles_laid, turned}
+use Rattle.seed_deal.specs.Layout.{after_hole, after_cells, after_reserve, after_stock, beside_hole, dealt_hole, piles_laid, turned}
 use Rattle.seed_deal.proofs.Laying.{few-lengths}
 use Rattle.seed_deal.proofs.Dealt.{few-first, few-beside, few_filled, laid_out-parts}
 use Rattle.seed_deal.proofs.layout.laid_out.Goals as goal

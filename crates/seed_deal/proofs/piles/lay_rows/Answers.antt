@@ -1,9 +1,8 @@
-use Rattle.std.proofs.Common.{◌≡◌, ◌∙◌, ◌+◌, ◌-◌, ℕ, [], ◌∷◌, ◌++◌, ap, set, get_or, sym, arith}
+use Rattle.std.proofs.Common.{◌≡◌, ◌∙◌, ◌-◌, ℕ, [], ◌∷◌, ◌++◌, ap, set, get_or, arith}
 use Rattle.std.specs.List.{flat_map, range_with_len}
 use Rattle.std.proofs.lemmas.List.{nil_from_length}
-use Rattle.game_rules.specs.declared.Layout.TheVariants.{Triangle}
-use Rattle.seed_deal.specs.Layout.{laid_on, triangle_order}
-use Rattle.seed_deal.proofs.Laying.{lays_same, rows_from, row_from, row-begins, row-more, row-ends, rows-end, cards-end, length-grown}
+use Rattle.seed_deal.specs.Layout.{laid_on}
+use Rattle.seed_deal.proofs.Laying.{lays_same, row-begins, row-more, row-ends, cards-end, length-grown}
 use Rattle.seed_deal.proofs.piles.lay_rows.Goals as goal
 
 pub loop-pile-init : goal.loop-pile-init
