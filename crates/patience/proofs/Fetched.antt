@@ -1,6 +1,7 @@
 -- What was fetched of a file says what the file says.
-use Rattle.std.proofs.Common.{◌≡◌, ℕ, List, [], Ok, ap, sym, ◌∙◌, IsTrue, subst, inl}
+use Rattle.std.proofs.Common.{◌≡◌, ℕ, List, [], Result, Ok, Err, IfOk, ap, sym, ◌∙◌, IsTrue, subst, inl, inr}
 use Rattle.std.specs.declared.option.Option.{Option}
+use Rattle.std.specs.declared.option.Option.TheVariants.{Some, None}
 use Rattle.game_rules.specs.declared.RuleParts.{RuleParts}
 use Rattle.game_rules.specs.declared.Move.{Move}
 use Rattle.game_rules.specs.Board.{Board}
@@ -13,12 +14,15 @@ use Rattle.rules_json.specs.RulesFile.{rules_of}
 use Rattle.rules_json.proofs.Reading.{rules_of-take}
 use Rattle.solver_words.specs.declared.job.Job.{Job}
 use Rattle.solver_words.specs.declared.job.Job.TheVariants as job
+use Rattle.solver_words.specs.declared.job.Source.{Source}
+use Rattle.solver_words.specs.declared.job.Source.TheVariants as source
+use Rattle.seed_deal.specs.Seeds.{seed_board, seed_fault}
 use Rattle.solver_words.specs.Jobs.{job_of}
 use Rattle.patience.specs.declared.report.Stop.{Stop}
 use Rattle.patience.specs.declared.report.Stop.TheVariants.{Told, NoMemory}
 use Rattle.patience.specs.declared.status.Status.TheVariants.{RulesRefused, DealRefused, LineRefused}
-use Rattle.patience.specs.Causes.{Shelved, Explains, HasRules, HasDeal, HasLine, takes_deal, rules_name, deal_name, line_name}
-use Rattle.patience.specs.Stages.{Stops, RefusesRules, RefusesDeal, RefusesLine}
+use Rattle.patience.specs.Causes.{Shelved, Explains, HasRules, HasDeal, HasStart, HasLine, takes_deal, seed_of, rules_name, deal_name, line_name}
+use Rattle.patience.specs.Stages.{Stops, RefusesRules, RefusesDeal, RefusesSeed, RefusesLine}
 
 -- the bytes that were read are those that were fetched
 pub read_as : (files : Option (List File)) (name read bytes : List ℕ) (limit : ℕ) → read ≡ bytes → Fetches files name limit [] bytes → Fetches files name limit [] read
@@ -82,7 +86,7 @@ pub deal-stopped : (shelf : Shelved) (words : List (List ℕ)) (j : Job) (name b
     → Stops (RefusesDeal rules bytes) stop → Stops (Explains shelf words) stop
 deal-stopped shelf words j name bytes rules NoMemory named by takes fetched stopped = tt
 deal-stopped shelf words j name bytes rules (Told report) named by takes fetched stopped =
-    let cause : Explains shelf words DealRefused report.text.items = record {
+    let cause : Explains shelf words DealRefused report.text.items = inl (record {
       job = j;
       rules = rules;
       has_rules = by;
@@ -92,7 +96,42 @@ deal-stopped shelf words j name bytes rules (Told report) named by takes fetched
       fault = stopped.0;
       refused = position_of-fetched shelf.files name bytes rules fetched ∙ stopped.1;
       printed = stopped.3;
-    } in
+    }) in
+    subst (λ status. Explains shelf words status report.text.items) (sym stopped.2) cause
+
+-- the board of a seed is that of the rules
+pub has_dealt : (files : Option (List File)) (words : List (List ℕ)) (from : Source) (seed cache nodes : ℕ) (rules : RuleParts) (board : Board)
+    → from ≡ source.FromSeed seed → HasRules files words (job.Solve from cache nodes) rules → seed_fault rules ≡ None → board ≡ seed_board rules seed
+    → HasStart files words (job.Solve from cache nodes) rules board
+has_dealt files words from seed cache nodes rules board is by fits dealt = inr (record {
+  has_rules = by;
+  seed = seed;
+  given = ap (λ (s : Source). seed_of (job.Solve s cache nodes)) is;
+  fits = fits;
+  dealt = dealt;
+})
+
+pub dealt-start : (files : Option (List File)) (words : List (List ℕ)) (from : Source) (seed cache nodes : ℕ) (rules : RuleParts) (result : Result Board Stop)
+    → from ≡ source.FromSeed seed → HasRules files words (job.Solve from cache nodes) rules → IfOk result (λ board. board ≡ seed_board rules seed)
+    → IfOk result (λ board. seed_fault rules ≡ None) → IfOk result (HasStart files words (job.Solve from cache nodes) rules)
+dealt-start files words from seed cache nodes rules (Ok board) is by dealt fits = has_dealt files words from seed cache nodes rules board is by fits dealt
+dealt-start files words from seed cache nodes rules (Err stop) is by dealt fits = tt
+
+-- what stopped the deal of a seed has its cause in the rules
+pub seed-stopped : (shelf : Shelved) (words : List (List ℕ)) (j : Job) (rules : RuleParts) (seed : ℕ) (stop : Stop)
+    → HasRules shelf.files words j rules → seed_of j ≡ Some seed → Stops (RefusesSeed rules) stop → Stops (Explains shelf words) stop
+seed-stopped shelf words j rules seed NoMemory by given stopped = tt
+seed-stopped shelf words j rules seed (Told report) by given stopped =
+    let cause : Explains shelf words DealRefused report.text.items = inr (record {
+      job = j;
+      rules = rules;
+      has_rules = by;
+      seed = seed;
+      given = given;
+      fault = stopped.0;
+      refused = stopped.1;
+      printed = stopped.3;
+    }) in
     subst (λ status. Explains shelf words status report.text.items) (sym stopped.2) cause
 
 -- the moves that were read are those of the file

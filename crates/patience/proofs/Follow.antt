@@ -9,11 +9,14 @@ use Rattle.game_rules.specs.Board.{Board}
 use Rattle.solver_words.specs.declared.fault.WordFault.{WordFault}
 use Rattle.solver_words.specs.declared.job.Job.{Job}
 use Rattle.solver_words.specs.declared.job.Job.TheVariants as job
+use Rattle.solver_words.specs.declared.job.Source.TheVariants as source
 use Rattle.solver_words.specs.Jobs.{job_of}
 use Rattle.rules_json.specs.declared.fault.RulesFault.{RulesFault}
 use Rattle.rules_json.specs.RulesFile.{rules_of}
 use Rattle.deal_reader.specs.declared.fault.DealFault.{DealFault}
 use Rattle.deal_reader.specs.Position.{position_of}
+use Rattle.seed_deal.specs.declared.fault.SeedFault.{SeedFault}
+use Rattle.seed_deal.specs.Seeds.{seed_fault}
 use Rattle.line_printer.specs.declared.fault.LineFault.{LineFault}
 use Rattle.line_printer.specs.LineFile.{line_of}
 use Rattle.win_replay.specs.declared.Replayed.{Replayed}
@@ -21,7 +24,7 @@ use Rattle.win_replay.specs.declared.Replayed.TheVariants as replayed
 use Rattle.win_replay.specs.Replays.{IsReplayed}
 use Rattle.patience.specs.declared.status.Status.{Status}
 use Rattle.patience.specs.declared.status.Status.TheVariants.{Done, Usage, ShelfFailed, RulesRefused, DealRefused, LineRefused, SinkFailed, Memory}
-use Rattle.patience.specs.Causes.{Shelved, Explains, rules_name, deal_name, line_name, takes_deal, HasRules, HasDeal, HasLine, IsUsage, IsRulesFailure, IsDealFailure, IsLineFailure, IsRulesRefusal, IsDealRefusal, IsBadLine, IsIllegalLine, IsShortLine, IsSolved, IsWinningLine, IsSpelled}
+use Rattle.patience.specs.Causes.{Shelved, Explains, rules_name, deal_name, line_name, takes_deal, seed_of, HasRules, HasDeal, HasStart, HasLine, IsUsage, IsRulesFailure, IsDealFailure, IsLineFailure, IsRulesRefusal, IsDealRefusal, IsSeedRefusal, IsBadLine, IsIllegalLine, IsShortLine, IsSolved, IsWinningLine, IsDealt, IsSpelled}
 use Rattle.patience.specs.Answers.{Gives, GivesRules, GivesDeal, Follows}
 use Rattle.patience.proofs.Replay.{wins-not_short, wins-not_illegal}
 
@@ -38,6 +41,27 @@ one_ok r a b first second = cc
 
 no_both : {A E C : Type 0} (r : Result A E) (a : A) (e : E) → r ≡ Ok a → r ≡ Err e → C
 no_both r a e first second = absurd (let both : Ok a ≡ Err e = sym first ∙ second in cc)
+
+-- a job with a seed has no deal file
+no_file : (j : Job) (seed : ℕ) → seed_of j ≡ Some seed → takes_deal j ≡ false
+no_file (job.Solve source.File cache nodes) seed h = cc
+no_file (job.Solve (source.FromSeed other) cache nodes) seed h = refl
+no_file job.Replay seed h = cc
+no_file (job.Deal other) seed h = refl
+no_file job.Rules seed h = cc
+
+-- rules under which no seed deals have a fault, and others none
+fits_or_not : {C : Type 0} (rules other : RuleParts) (fault : SeedFault) → rules ≡ other → seed_fault rules ≡ Some fault → seed_fault other ≡ None → C
+fits_or_not rules other fault same refused fits = absurd (let both : Some fault ≡ None = sym refused ∙ ap seed_fault same ∙ fits in cc)
+
+-- a job with a seed is not one without
+seed_or_not : {C : Type 0} (a b : Job) (seed : ℕ) → seed_of a ≡ Some seed → seed_of b ≡ None → a ≡ b → C
+seed_or_not a b seed given none same = absurd (let both : Some seed ≡ None = sym given ∙ ap seed_of same ∙ none in cc)
+
+-- the rules of a start
+started : (files : Option (List File)) (words : List (List ℕ)) (j : Job) (rules : RuleParts) (board : Board) → HasStart files words j rules board → HasRules files words j rules
+started files words j rules board (inl x) = x.has_rules
+started files words j rules board (inr x) = x.has_rules
 
 module _ (shelf : Shelved) (words : List (List ℕ)) where
   -- the rules that the shelf gives are those that were read
@@ -87,6 +111,13 @@ module _ (shelf : Shelved) (words : List (List ℕ)) where
       let read : position_of rules bytes ≡ Ok board = ap (λ r. position_of r bytes) same.1 ∙ ap (position_of other) one ∙ has.accepted in
       no_both (position_of rules bytes) board fault read refused
 
+  -- nor is anything solved where the deal is refused
+  start_falls : {C : Type 0} (a b : Job) (rules other : RuleParts) (bytes : List ℕ) (fault : DealFault) (board : Board) → GivesRules shelf words a rules
+      → IsTrue (takes_deal a) → Gives shelf (deal_name words) bytes → position_of rules bytes ≡ Err fault → HasStart shelf.files words b other board → C
+  start_falls a b rules other bytes fault board by takes gives refused (inl has) = deal_falls a b rules other bytes fault board by gives refused has
+  start_falls a b rules other bytes fault board by takes gives refused (inr has) =
+      takes_or_not a b takes (no_file b has.seed has.given) (same_rules a b rules other by has.has_rules).0
+
   -- the deal that the shelf gives is the one that was read
   same_deal : (a b : Job) (rules other : RuleParts) (board start : Board) → GivesDeal shelf words a rules board → HasDeal shelf.files words b other start
       → (a ≡ b) × (rules ≡ other) × (board ≡ start)
@@ -128,28 +159,32 @@ module _ (shelf : Shelved) (words : List (List ℕ)) where
       → (IsRulesRefusal shelf.files words text → P RulesRefused)
       → (IsDealFailure shelf words text → P ShelfFailed)
       → (IsDealRefusal shelf.files words text → P DealRefused)
+      → (IsSeedRefusal shelf.files words text → P DealRefused)
       → (IsLineFailure shelf words text → P ShelfFailed)
       → (IsBadLine shelf.files words text → P LineRefused)
       → (IsIllegalLine shelf.files words text → P LineRefused)
       → (IsShortLine shelf.files words text → P LineRefused)
       → (IsSolved shelf.files words text → P Done)
       → (IsWinningLine shelf.files words text → P Done)
+      → (IsDealt shelf.files words text → P Done)
       → (IsSpelled shelf.files words text → P Done)
       → (status : Status) → Explains shelf words status text → P status
-  by_cause P text usage no_rules bad_rules no_deal bad_deal no_line bad_line illegal short solved won spelled Done (inl x) = solved x
-  by_cause P text usage no_rules bad_rules no_deal bad_deal no_line bad_line illegal short solved won spelled Done (inr (inl x)) = won x
-  by_cause P text usage no_rules bad_rules no_deal bad_deal no_line bad_line illegal short solved won spelled Done (inr (inr x)) = spelled x
-  by_cause P text usage no_rules bad_rules no_deal bad_deal no_line bad_line illegal short solved won spelled Usage x = usage x
-  by_cause P text usage no_rules bad_rules no_deal bad_deal no_line bad_line illegal short solved won spelled ShelfFailed (inl x) = no_rules x
-  by_cause P text usage no_rules bad_rules no_deal bad_deal no_line bad_line illegal short solved won spelled ShelfFailed (inr (inl x)) = no_deal x
-  by_cause P text usage no_rules bad_rules no_deal bad_deal no_line bad_line illegal short solved won spelled ShelfFailed (inr (inr x)) = no_line x
-  by_cause P text usage no_rules bad_rules no_deal bad_deal no_line bad_line illegal short solved won spelled RulesRefused x = bad_rules x
-  by_cause P text usage no_rules bad_rules no_deal bad_deal no_line bad_line illegal short solved won spelled DealRefused x = bad_deal x
-  by_cause P text usage no_rules bad_rules no_deal bad_deal no_line bad_line illegal short solved won spelled LineRefused (inl x) = bad_line x
-  by_cause P text usage no_rules bad_rules no_deal bad_deal no_line bad_line illegal short solved won spelled LineRefused (inr (inl x)) = illegal x
-  by_cause P text usage no_rules bad_rules no_deal bad_deal no_line bad_line illegal short solved won spelled LineRefused (inr (inr x)) = short x
-  by_cause P text usage no_rules bad_rules no_deal bad_deal no_line bad_line illegal short solved won spelled SinkFailed x = absurd x
-  by_cause P text usage no_rules bad_rules no_deal bad_deal no_line bad_line illegal short solved won spelled Memory x = absurd x
+  by_cause P text usage no_rules bad_rules no_deal bad_deal bad_seed no_line bad_line illegal short solved won dealt spelled Done (inl x) = solved x
+  by_cause P text usage no_rules bad_rules no_deal bad_deal bad_seed no_line bad_line illegal short solved won dealt spelled Done (inr (inl x)) = won x
+  by_cause P text usage no_rules bad_rules no_deal bad_deal bad_seed no_line bad_line illegal short solved won dealt spelled Done (inr (inr (inl x))) = dealt x
+  by_cause P text usage no_rules bad_rules no_deal bad_deal bad_seed no_line bad_line illegal short solved won dealt spelled Done (inr (inr (inr x))) = spelled x
+  by_cause P text usage no_rules bad_rules no_deal bad_deal bad_seed no_line bad_line illegal short solved won dealt spelled Usage x = usage x
+  by_cause P text usage no_rules bad_rules no_deal bad_deal bad_seed no_line bad_line illegal short solved won dealt spelled ShelfFailed (inl x) = no_rules x
+  by_cause P text usage no_rules bad_rules no_deal bad_deal bad_seed no_line bad_line illegal short solved won dealt spelled ShelfFailed (inr (inl x)) = no_deal x
+  by_cause P text usage no_rules bad_rules no_deal bad_deal bad_seed no_line bad_line illegal short solved won dealt spelled ShelfFailed (inr (inr x)) = no_line x
+  by_cause P text usage no_rules bad_rules no_deal bad_deal bad_seed no_line bad_line illegal short solved won dealt spelled RulesRefused x = bad_rules x
+  by_cause P text usage no_rules bad_rules no_deal bad_deal bad_seed no_line bad_line illegal short solved won dealt spelled DealRefused (inl x) = bad_deal x
+  by_cause P text usage no_rules bad_rules no_deal bad_deal bad_seed no_line bad_line illegal short solved won dealt spelled DealRefused (inr x) = bad_seed x
+  by_cause P text usage no_rules bad_rules no_deal bad_deal bad_seed no_line bad_line illegal short solved won dealt spelled LineRefused (inl x) = bad_line x
+  by_cause P text usage no_rules bad_rules no_deal bad_deal bad_seed no_line bad_line illegal short solved won dealt spelled LineRefused (inr (inl x)) = illegal x
+  by_cause P text usage no_rules bad_rules no_deal bad_deal bad_seed no_line bad_line illegal short solved won dealt spelled LineRefused (inr (inr x)) = short x
+  by_cause P text usage no_rules bad_rules no_deal bad_deal bad_seed no_line bad_line illegal short solved won dealt spelled SinkFailed x = absurd x
+  by_cause P text usage no_rules bad_rules no_deal bad_deal bad_seed no_line bad_line illegal short solved won dealt spelled Memory x = absurd x
 
   -- the words name no job
   usage_is : (text : List ℕ) (fault : WordFault) → job_of words ≡ Err fault → (status : Status) → Explains shelf words status text → status ≡ Usage
@@ -159,12 +194,14 @@ module _ (shelf : Shelved) (words : List (List ℕ)) where
       (λ x. no_both (job_of words) x.job fault x.named no_job)
       (λ x. no_both (job_of words) x.job fault x.has_rules.named no_job)
       (λ x. no_both (job_of words) x.job fault x.has_rules.named no_job)
+      (λ x. no_both (job_of words) x.job fault x.has_rules.named no_job)
       (λ x. no_both (job_of words) job.Replay fault x.has_deal.has_rules.named no_job)
       (λ x. no_both (job_of words) job.Replay fault x.has_deal.has_rules.named no_job)
       (λ x. no_both (job_of words) job.Replay fault x.has_line.has_deal.has_rules.named no_job)
       (λ x. no_both (job_of words) job.Replay fault x.has_line.has_deal.has_rules.named no_job)
-      (λ x. no_both (job_of words) (job.Solve x.cache x.nodes) fault x.has_deal.has_rules.named no_job)
+      (λ x. no_both (job_of words) (job.Solve x.source x.cache x.nodes) fault (started shelf.files words (job.Solve x.source x.cache x.nodes) x.rules x.start x.has_start).named no_job)
       (λ x. no_both (job_of words) job.Replay fault x.has_line.has_deal.has_rules.named no_job)
+      (λ x. no_both (job_of words) (job.Deal x.seed) fault x.has_rules.named no_job)
       (λ x. no_both (job_of words) job.Rules fault x.has_rules.named no_job)
 
   -- the rules are refused
@@ -176,12 +213,14 @@ module _ (shelf : Shelved) (words : List (List ℕ)) where
       (λ x. refl)
       (λ x. rules_fall x.job bytes fault x.rules gives refused x.has_rules)
       (λ x. rules_fall x.job bytes fault x.rules gives refused x.has_rules)
+      (λ x. rules_fall x.job bytes fault x.rules gives refused x.has_rules)
       (λ x. rules_fall job.Replay bytes fault x.rules gives refused x.has_deal.has_rules)
       (λ x. rules_fall job.Replay bytes fault x.rules gives refused x.has_deal.has_rules)
       (λ x. rules_fall job.Replay bytes fault x.rules gives refused x.has_line.has_deal.has_rules)
       (λ x. rules_fall job.Replay bytes fault x.rules gives refused x.has_line.has_deal.has_rules)
-      (λ x. rules_fall (job.Solve x.cache x.nodes) bytes fault x.rules gives refused x.has_deal.has_rules)
+      (λ x. rules_fall (job.Solve x.source x.cache x.nodes) bytes fault x.rules gives refused (started shelf.files words (job.Solve x.source x.cache x.nodes) x.rules x.start x.has_start))
       (λ x. rules_fall job.Replay bytes fault x.rules gives refused x.has_line.has_deal.has_rules)
+      (λ x. rules_fall (job.Deal x.seed) bytes fault x.rules gives refused x.has_rules)
       (λ x. rules_fall job.Rules bytes fault x.rules gives refused x.has_rules)
 
   -- the deal is refused
@@ -194,12 +233,14 @@ module _ (shelf : Shelved) (words : List (List ℕ)) where
       (λ x. rules_stand j rules text by x)
       (λ x. absurd (gives.calm x.rose))
       (λ x. refl)
+      (λ x. refl)
       (λ x. deal_falls j job.Replay rules x.rules bytes fault x.board by gives refused x.has_deal)
       (λ x. deal_falls j job.Replay rules x.rules bytes fault x.board by gives refused x.has_deal)
       (λ x. deal_falls j job.Replay rules x.rules bytes fault x.board by gives refused x.has_line.has_deal)
       (λ x. deal_falls j job.Replay rules x.rules bytes fault x.board by gives refused x.has_line.has_deal)
-      (λ x. deal_falls j (job.Solve x.cache x.nodes) rules x.rules bytes fault x.start by gives refused x.has_deal)
+      (λ x. start_falls j (job.Solve x.source x.cache x.nodes) rules x.rules bytes fault x.start by takes gives refused x.has_start)
       (λ x. deal_falls j job.Replay rules x.rules bytes fault x.board by gives refused x.has_line.has_deal)
+      (λ x. takes_or_not j (job.Deal x.seed) takes refl (same_rules j (job.Deal x.seed) rules x.rules by x.has_rules).0)
       (λ x. takes_or_not j job.Rules takes refl (same_rules j job.Rules rules x.rules by x.has_rules).0)
 
   -- what the line of a replay comes to
@@ -216,13 +257,15 @@ module _ (shelf : Shelved) (words : List (List ℕ)) where
       (λ x. rules_stand job.Replay rules text gives.has_rules x)
       (λ x. absurd (gives.given.calm x.rose))
       (λ x. deal_stands job.Replay rules board text gives x)
+      (λ x. takes_or_not job.Replay x.job refl (no_file x.job x.seed x.given) (same_rules job.Replay x.job rules x.rules gives.has_rules x.has_rules).0)
       (λ x. absurd (given.calm x.rose))
       bad
       illegal
       short
-      (λ x. absurd (let same : job.Replay ≡ job.Solve x.cache x.nodes =
-      (same_rules job.Replay (job.Solve x.cache x.nodes) rules x.rules gives.has_rules x.has_deal.has_rules).0 in cc))
+      (λ x. absurd (let same : job.Replay ≡ job.Solve x.source x.cache x.nodes =
+      (same_rules job.Replay (job.Solve x.source x.cache x.nodes) rules x.rules gives.has_rules (started shelf.files words (job.Solve x.source x.cache x.nodes) x.rules x.start x.has_start)).0 in cc))
       won
+      (λ x. takes_or_not job.Replay (job.Deal x.seed) refl refl (same_rules job.Replay (job.Deal x.seed) rules x.rules gives.has_rules x.has_rules).0)
       (λ x. takes_or_not job.Replay job.Rules refl refl (same_rules job.Replay job.Rules rules x.rules gives.has_rules x.has_rules).0)
 
   -- the line file is refused
@@ -253,25 +296,77 @@ module _ (shelf : Shelved) (words : List (List ℕ)) where
       (λ x. refl)
 
   -- a job that solves has no line
-  no_replay : {C : Type 0} (cache nodes : ℕ) (rules other : RuleParts) (board start : Board) → GivesDeal shelf words (job.Solve cache nodes) rules board
+  no_replay : {C : Type 0} (cache nodes : ℕ) (rules other : RuleParts) (board start : Board) → GivesDeal shelf words (job.Solve source.File cache nodes) rules board
       → HasDeal shelf.files words job.Replay other start → C
-  no_replay cache nodes rules other board start gives has = absurd (let same : job.Solve cache nodes ≡ job.Replay =
-      (same_rules (job.Solve cache nodes) job.Replay rules other gives.has_rules has.has_rules).0 in cc)
+  no_replay cache nodes rules other board start gives has = absurd (let same : job.Solve source.File cache nodes ≡ job.Replay =
+      (same_rules (job.Solve source.File cache nodes) job.Replay rules other gives.has_rules has.has_rules).0 in cc)
 
   -- the deal is solved
-  solved_is : (text : List ℕ) (cache nodes : ℕ) (rules : RuleParts) (board : Board) → GivesDeal shelf words (job.Solve cache nodes) rules board
+  solved_is : (text : List ℕ) (cache nodes : ℕ) (rules : RuleParts) (board : Board) → GivesDeal shelf words (job.Solve source.File cache nodes) rules board
       → (status : Status) → Explains shelf words status text → status ≡ Done
   solved_is text cache nodes rules board gives =
       by_cause (λ s. s ≡ Done) text
-      (λ x. no_both (job_of words) (job.Solve cache nodes) x.fault gives.has_rules.named x.names_no_job)
+      (λ x. no_both (job_of words) (job.Solve source.File cache nodes) x.fault gives.has_rules.named x.names_no_job)
       (λ x. absurd (gives.has_rules.given.calm x.rose))
-      (λ x. rules_stand (job.Solve cache nodes) rules text gives.has_rules x)
+      (λ x. rules_stand (job.Solve source.File cache nodes) rules text gives.has_rules x)
       (λ x. absurd (gives.given.calm x.rose))
-      (λ x. deal_stands (job.Solve cache nodes) rules board text gives x)
+      (λ x. deal_stands (job.Solve source.File cache nodes) rules board text gives x)
+      (λ x. takes_or_not (job.Solve source.File cache nodes) x.job refl (no_file x.job x.seed x.given)
+      (same_rules (job.Solve source.File cache nodes) x.job rules x.rules gives.has_rules x.has_rules).0)
       (λ x. no_replay cache nodes rules x.rules board x.board gives x.has_deal)
       (λ x. no_replay cache nodes rules x.rules board x.board gives x.has_deal)
       (λ x. no_replay cache nodes rules x.rules board x.board gives x.has_line.has_deal)
       (λ x. no_replay cache nodes rules x.rules board x.board gives x.has_line.has_deal)
+      (λ x. refl)
+      (λ x. refl)
+      (λ x. refl)
+      (λ x. refl)
+
+  -- a job with a seed has no deal file, and so no line either
+  no_deal_file : {C : Type 0} (j b : Job) (seed : ℕ) (rules other : RuleParts) → GivesRules shelf words j rules → seed_of j ≡ Some seed
+      → HasRules shelf.files words b other → IsTrue (takes_deal b) → C
+  no_deal_file j b seed rules other by given has takes = takes_or_not b j takes (no_file j seed given) (sym (same_rules j b rules other by has).0)
+
+  -- nothing is solved where no seed deals
+  seed_falls : {C : Type 0} (j b : Job) (seed : ℕ) (rules other : RuleParts) (fault : SeedFault) (board : Board) → GivesRules shelf words j rules
+      → seed_of j ≡ Some seed → seed_fault rules ≡ Some fault → HasStart shelf.files words b other board → C
+  seed_falls j b seed rules other fault board by given refused (inl has) = no_deal_file j b seed rules other by given has.has_rules has.takes
+  seed_falls j b seed rules other fault board by given refused (inr has) = fits_or_not rules other fault (same_rules j b rules other by has.has_rules).1 refused has.fits
+
+  -- no seed deals a board
+  seed_refused_is : (text : List ℕ) (j : Job) (rules : RuleParts) (seed : ℕ) (fault : SeedFault) → GivesRules shelf words j rules
+      → seed_of j ≡ Some seed → seed_fault rules ≡ Some fault → (status : Status) → Explains shelf words status text → status ≡ DealRefused
+  seed_refused_is text j rules seed fault by given refused = by_cause (λ s. s ≡ DealRefused) text
+      (λ x. no_both (job_of words) j x.fault by.named x.names_no_job)
+      (λ x. absurd (by.given.calm x.rose))
+      (λ x. rules_stand j rules text by x)
+      (λ x. no_deal_file j x.job seed rules x.rules by given x.has_rules x.takes)
+      (λ x. refl)
+      (λ x. refl)
+      (λ x. no_deal_file j job.Replay seed rules x.rules by given x.has_deal.has_rules refl)
+      (λ x. no_deal_file j job.Replay seed rules x.rules by given x.has_deal.has_rules refl)
+      (λ x. no_deal_file j job.Replay seed rules x.rules by given x.has_line.has_deal.has_rules refl)
+      (λ x. no_deal_file j job.Replay seed rules x.rules by given x.has_line.has_deal.has_rules refl)
+      (λ x. seed_falls j (job.Solve x.source x.cache x.nodes) seed rules x.rules fault x.start by given refused x.has_start)
+      (λ x. no_deal_file j job.Replay seed rules x.rules by given x.has_line.has_deal.has_rules refl)
+      (λ x. fits_or_not rules x.rules fault (same_rules j (job.Deal x.seed) rules x.rules by x.has_rules).1 refused x.fits)
+      (λ x. seed_or_not j job.Rules seed given refl (same_rules j job.Rules rules x.rules by x.has_rules).0)
+
+  -- the seed deals a board
+  dealt_is : (text : List ℕ) (j : Job) (rules : RuleParts) (seed : ℕ) → GivesRules shelf words j rules
+      → seed_of j ≡ Some seed → seed_fault rules ≡ None → (status : Status) → Explains shelf words status text → status ≡ Done
+  dealt_is text j rules seed by given fits = by_cause (λ s. s ≡ Done) text
+      (λ x. no_both (job_of words) j x.fault by.named x.names_no_job)
+      (λ x. absurd (by.given.calm x.rose))
+      (λ x. rules_stand j rules text by x)
+      (λ x. no_deal_file j x.job seed rules x.rules by given x.has_rules x.takes)
+      (λ x. no_deal_file j x.job seed rules x.rules by given x.has_rules x.takes)
+      (λ x. fits_or_not x.rules rules x.fault (sym (same_rules j x.job rules x.rules by x.has_rules).1) x.refused fits)
+      (λ x. no_deal_file j job.Replay seed rules x.rules by given x.has_deal.has_rules refl)
+      (λ x. no_deal_file j job.Replay seed rules x.rules by given x.has_deal.has_rules refl)
+      (λ x. no_deal_file j job.Replay seed rules x.rules by given x.has_line.has_deal.has_rules refl)
+      (λ x. no_deal_file j job.Replay seed rules x.rules by given x.has_line.has_deal.has_rules refl)
+      (λ x. refl)
       (λ x. refl)
       (λ x. refl)
       (λ x. refl)
@@ -286,10 +381,12 @@ module _ (shelf : Shelved) (words : List (List ℕ)) where
       (λ x. rules_stand job.Rules rules text by x)
       (λ x. takes_or_not x.job job.Rules x.takes refl (sym (same_rules job.Rules x.job rules x.rules by x.has_rules).0))
       (λ x. takes_or_not x.job job.Rules x.takes refl (sym (same_rules job.Rules x.job rules x.rules by x.has_rules).0))
+      (λ x. seed_or_not x.job job.Rules x.seed x.given refl (sym (same_rules job.Rules x.job rules x.rules by x.has_rules).0))
       (λ x. takes_or_not job.Replay job.Rules refl refl (sym (same_rules job.Rules job.Replay rules x.rules by x.has_deal.has_rules).0))
       (λ x. takes_or_not job.Replay job.Rules refl refl (sym (same_rules job.Rules job.Replay rules x.rules by x.has_deal.has_rules).0))
       (λ x. takes_or_not job.Replay job.Rules refl refl (sym (same_rules job.Rules job.Replay rules x.rules by x.has_line.has_deal.has_rules).0))
       (λ x. takes_or_not job.Replay job.Rules refl refl (sym (same_rules job.Rules job.Replay rules x.rules by x.has_line.has_deal.has_rules).0))
+      (λ x. refl)
       (λ x. refl)
       (λ x. refl)
       (λ x. refl)
@@ -300,9 +397,11 @@ module _ (shelf : Shelved) (words : List (List ℕ)) where
     usage = λ fault h sunk memory. usage_is text fault h status cause;
     rules_refused = λ j bytes fault named gives refused sunk memory. rules_refused_is text j bytes fault named gives refused status cause;
     deal_refused = λ j rules bytes fault by takes gives refused sunk memory. deal_refused_is text j rules bytes fault by takes gives refused status cause;
+    seed_refused = λ j rules seed fault by given refused sunk memory. seed_refused_is text j rules seed fault by given refused status cause;
     bad_line = λ rules board bytes fault gives given refused sunk memory. bad_line_is text rules board bytes fault gives given refused status cause;
     no_win = λ rules board bytes moves gives given accepted no sunk memory. no_win_is text rules board bytes moves gives given accepted no status cause;
     win = λ rules board bytes moves gives given accepted wins sunk memory. win_is text rules board bytes moves gives given accepted wins status cause;
     solved = λ cache nodes rules board gives sunk memory. solved_is text cache nodes rules board gives status cause;
+    dealt = λ j rules seed by given fits sunk memory. dealt_is text j rules seed by given fits status cause;
     spelled = λ rules by sunk memory. spelled_is text rules by status cause;
   }

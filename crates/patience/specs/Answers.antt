@@ -1,5 +1,5 @@
 -- What is written with each status, and which status must be answered.
-use Rattle.std.specs.Prelude.{ℕ, ◌≡◌, ◌≢◌, IsTrue, List, Option, Ok, Err}
+use Rattle.std.specs.Prelude.{ℕ, ◌≡◌, ◌≢◌, IsTrue, List, Option, Some, None, Ok, Err}
 use Rattle.std.specs.Io.KnownBytes.{Appends}
 use Rattle.outside_io.specs.Sink.{AppendsPrefix}
 use Rattle.outside_io.specs.Shelf.{Tells}
@@ -9,18 +9,21 @@ use Rattle.game_rules.specs.Board.{Board}
 use Rattle.solver_words.specs.declared.fault.WordFault.{WordFault}
 use Rattle.solver_words.specs.declared.job.Job.{Job}
 use Rattle.solver_words.specs.declared.job.Job.TheVariants as job
+use Rattle.solver_words.specs.declared.job.Source.TheVariants as source
 use Rattle.solver_words.specs.Jobs.{job_of}
 use Rattle.rules_json.specs.declared.fault.RulesFault.{RulesFault}
 use Rattle.rules_json.specs.RulesFile.{rules_of}
 use Rattle.deal_reader.specs.declared.fault.DealFault.{DealFault}
 use Rattle.deal_reader.specs.Position.{position_of}
+use Rattle.seed_deal.specs.declared.fault.SeedFault.{SeedFault}
+use Rattle.seed_deal.specs.Seeds.{seed_fault}
 use Rattle.line_printer.specs.declared.fault.LineFault.{LineFault}
 use Rattle.line_printer.specs.LineFile.{line_of}
 use Rattle.win_replay.specs.declared.Replayed.TheVariants as replayed
 use Rattle.win_replay.specs.Replays.{IsReplayed}
 use Rattle.patience.specs.declared.status.Status.{Status}
 use Rattle.patience.specs.declared.status.Status.TheVariants.{Done, Usage, RulesRefused, DealRefused, LineRefused, SinkFailed, Memory}
-use Rattle.patience.specs.Causes.{Shelved, Fails, rules_name, deal_name, line_name, takes_deal}
+use Rattle.patience.specs.Causes.{Shelved, Fails, rules_name, deal_name, line_name, takes_deal, seed_of}
 
 -- A status other than SinkFailed and Memory comes with a text that it explains, and this text alone was written.
 abbrev pub WritesWhole : (Status → List ℕ → Type 0) → Option (List ℕ) → Option (List ℕ) → Status → Type 0
@@ -63,11 +66,17 @@ pub record Follows (shelf : Shelved) (words : List (List ℕ)) (result : Status)
       → rules_of bytes ≡ Err fault → Yields RulesRefused result
   pub deal_refused : (job : Job) (rules : RuleParts) (bytes : List ℕ) (fault : DealFault) → GivesRules shelf words job rules
       → IsTrue (takes_deal job) → Gives shelf (deal_name words) bytes → position_of rules bytes ≡ Err fault → Yields DealRefused result
+  pub seed_refused : (job : Job) (rules : RuleParts) (seed : ℕ) (fault : SeedFault) → GivesRules shelf words job rules
+      → seed_of job ≡ Some seed → seed_fault rules ≡ Some fault → Yields DealRefused result
   pub bad_line : (rules : RuleParts) (board : Board) (bytes : List ℕ) (fault : LineFault) → GivesDeal shelf words job.Replay rules board
       → Gives shelf (line_name words) bytes → line_of bytes ≡ Err fault → Yields LineRefused result
   pub no_win : (rules : RuleParts) (board : Board) (bytes : List ℕ) (moves : List Move) → GivesDeal shelf words job.Replay rules board
       → Gives shelf (line_name words) bytes → line_of bytes ≡ Ok moves → (¬ IsReplayed rules board moves replayed.Wins) → Yields LineRefused result
   pub win : (rules : RuleParts) (board : Board) (bytes : List ℕ) (moves : List Move) → GivesDeal shelf words job.Replay rules board
       → Gives shelf (line_name words) bytes → line_of bytes ≡ Ok moves → IsReplayed rules board moves replayed.Wins → Yields Done result
-  pub solved : (cache nodes : ℕ) (rules : RuleParts) (board : Board) → GivesDeal shelf words (job.Solve cache nodes) rules board → Yields Done result
+  pub solved : (cache nodes : ℕ) (rules : RuleParts) (board : Board) → GivesDeal shelf words (job.Solve source.File cache nodes) rules board
+      → Yields Done result
+  -- a seed is solved, or its deal is printed
+  pub dealt : (job : Job) (rules : RuleParts) (seed : ℕ) → GivesRules shelf words job rules → seed_of job ≡ Some seed
+      → seed_fault rules ≡ None → Yields Done result
   pub spelled : (rules : RuleParts) → GivesRules shelf words job.Rules rules → Yields Done result

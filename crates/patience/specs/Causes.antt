@@ -1,5 +1,5 @@
 -- Each status and text that the program may answer, with its cause in the words and in the files.
-use Rattle.std.specs.Prelude.{ℕ, ◌≡◌, ◌⊎◌, min, IsTrue, Bool, true, false, List, [], length, slice_index_or, Option, Ok, Err}
+use Rattle.std.specs.Prelude.{ℕ, ◌≡◌, ◌⊎◌, min, IsTrue, Bool, true, false, List, [], length, slice_index_or, Option, Some, None, Ok, Err}
 use Rattle.outside_io.specs.Faults.{Rose}
 use Rattle.outside_io.specs.Shelf.{File, HasBytes}
 use Rattle.game_rules.specs.declared.RuleParts.{RuleParts}
@@ -8,6 +8,8 @@ use Rattle.game_rules.specs.Board.{Board}
 use Rattle.solver_words.specs.declared.fault.WordFault.{WordFault}
 use Rattle.solver_words.specs.declared.job.Job.{Job}
 use Rattle.solver_words.specs.declared.job.Job.TheVariants as job
+use Rattle.solver_words.specs.declared.job.Source.{Source}
+use Rattle.solver_words.specs.declared.job.Source.TheVariants as source
 use Rattle.solver_words.specs.FaultText.{word_fault_text}
 use Rattle.solver_words.specs.Jobs.{job_of}
 use Rattle.rules_json.specs.declared.fault.RulesFault.{RulesFault}
@@ -17,6 +19,10 @@ use Rattle.rules_json.specs.Spelling.{rules_text}
 use Rattle.deal_reader.specs.declared.fault.DealFault.{DealFault}
 use Rattle.deal_reader.specs.FaultText.{deal_fault_text}
 use Rattle.deal_reader.specs.Position.{position_of}
+use Rattle.deal_reader.specs.Spelling.{position_text}
+use Rattle.seed_deal.specs.declared.fault.SeedFault.{SeedFault}
+use Rattle.seed_deal.specs.FaultText.{seed_fault_text}
+use Rattle.seed_deal.specs.Seeds.{seed_board, seed_fault}
 use Rattle.line_printer.specs.declared.fault.LineFault.{LineFault}
 use Rattle.line_printer.specs.declared.verdict.Verdict.{Verdict}
 use Rattle.line_printer.specs.FaultText.{line_fault_text}
@@ -50,11 +56,21 @@ line_name words = slice_index_or words 3 []
 abbrev pub Fails : Shelved → List ℕ → Type 0
 Fails shelf name = Rose (shelf.before name) (shelf.after name)
 
--- whether the job has a deal
+-- whether the job has a deal file
 abbrev pub takes_deal : Job → Bool
-takes_deal (job.Solve cache nodes) = true
+takes_deal (job.Solve source.File cache nodes) = true
+takes_deal (job.Solve (source.FromSeed seed) cache nodes) = false
 takes_deal job.Replay = true
+takes_deal (job.Deal seed) = false
 takes_deal job.Rules = false
+
+-- the seed of the job, where it has one
+abbrev pub seed_of : Job → Option ℕ
+seed_of (job.Solve source.File cache nodes) = None
+seed_of (job.Solve (source.FromSeed seed) cache nodes) = Some seed
+seed_of job.Replay = None
+seed_of (job.Deal seed) = Some seed
+seed_of job.Rules = None
 
 -- the words name the job, and the rules file gives these rules
 pub record HasRules (files : Option (List File)) (words : List (List ℕ)) (job : Job) (rules : RuleParts) : Type 0 where
@@ -70,6 +86,18 @@ pub record HasDeal (files : Option (List File)) (words : List (List ℕ)) (job :
   pub bytes : List ℕ
   pub told : HasBytes files (deal_name words) bytes
   pub accepted : position_of rules bytes ≡ Ok board
+
+-- the job's seed deals this board under the rules
+pub record HasDealt (files : Option (List File)) (words : List (List ℕ)) (job : Job) (rules : RuleParts) (board : Board) : Type 0 where
+  pub has_rules : HasRules files words job rules
+  pub seed : ℕ
+  pub given : seed_of job ≡ Some seed
+  pub fits : seed_fault rules ≡ None
+  pub dealt : board ≡ seed_board rules seed
+
+-- the deal file or the seed gives this board
+abbrev pub HasStart : Option (List File) → List (List ℕ) → Job → RuleParts → Board → Type 0
+HasStart files words job rules board = HasDeal files words job rules board ⊎ HasDealt files words job rules board
 
 -- the line file gives these moves besides
 pub record HasLine (files : Option (List File)) (words : List (List ℕ)) (rules : RuleParts) (board : Board) (moves : List Move) : Type 0 where
@@ -130,6 +158,17 @@ pub record IsDealRefusal (files : Option (List File)) (words : List (List ℕ)) 
   pub refused : position_of rules bytes ≡ Err fault
   pub printed : text ≡ refused_text role.Deal (deal_fault_text fault)
 
+-- no seed deals a board under the rules, and the fault is the printed one
+pub record IsSeedRefusal (files : Option (List File)) (words : List (List ℕ)) (text : List ℕ) : Type 0 where
+  pub job : Job
+  pub rules : RuleParts
+  pub has_rules : HasRules files words job rules
+  pub seed : ℕ
+  pub given : seed_of job ≡ Some seed
+  pub fault : SeedFault
+  pub refused : seed_fault rules ≡ Some fault
+  pub printed : text ≡ refused_text role.Deal (seed_fault_text fault)
+
 -- the line file has the printed fault
 pub record IsBadLine (files : Option (List File)) (words : List (List ℕ)) (text : List ℕ) : Type 0 where
   pub rules : RuleParts
@@ -162,11 +201,12 @@ pub record IsShortLine (files : Option (List File)) (words : List (List ℕ)) (t
 
 -- a verdict on the deal was printed, and it is true
 pub record IsSolved (files : Option (List File)) (words : List (List ℕ)) (text : List ℕ) : Type 0 where
+  pub source : Source
   pub cache : ℕ
   pub nodes : ℕ
   pub rules : RuleParts
   pub start : Board
-  pub has_deal : HasDeal files words (job.Solve cache nodes) rules start
+  pub has_start : HasStart files words (job.Solve source cache nodes) rules start
   pub verdict : Verdict
   pub is_true : IsVerdict rules start cache nodes verdict
   -- where so few boards cover the game, the verdict is not undecided
@@ -182,6 +222,14 @@ pub record IsWinningLine (files : Option (List File)) (words : List (List ℕ)) 
   pub wins : IsReplayed rules board moves replayed.Wins
   pub printed : text ≡ wins_text (length moves)
 
+-- the position that the seed deals was printed
+pub record IsDealt (files : Option (List File)) (words : List (List ℕ)) (text : List ℕ) : Type 0 where
+  pub seed : ℕ
+  pub rules : RuleParts
+  pub has_rules : HasRules files words (job.Deal seed) rules
+  pub fits : seed_fault rules ≡ None
+  pub printed : text ≡ line (position_text rules (seed_board rules seed))
+
 -- the rules were printed in their one spelling
 pub record IsSpelled (files : Option (List File)) (words : List (List ℕ)) (text : List ℕ) : Type 0 where
   pub rules : RuleParts
@@ -191,12 +239,13 @@ pub record IsSpelled (files : Option (List File)) (words : List (List ℕ)) (tex
 -- the cause of a status and of its text
 abbrev pub Explains : Shelved → List (List ℕ) → Status → List ℕ → Type 0
 Explains shelf words Done text =
-    IsSolved shelf.files words text ⊎ (IsWinningLine shelf.files words text ⊎ IsSpelled shelf.files words text)
+    IsSolved shelf.files words text
+    ⊎ (IsWinningLine shelf.files words text ⊎ (IsDealt shelf.files words text ⊎ IsSpelled shelf.files words text))
 Explains shelf words Usage text = IsUsage words text
 Explains shelf words ShelfFailed text =
     IsRulesFailure shelf words text ⊎ (IsDealFailure shelf words text ⊎ IsLineFailure shelf words text)
 Explains shelf words RulesRefused text = IsRulesRefusal shelf.files words text
-Explains shelf words DealRefused text = IsDealRefusal shelf.files words text
+Explains shelf words DealRefused text = IsDealRefusal shelf.files words text ⊎ IsSeedRefusal shelf.files words text
 Explains shelf words LineRefused text =
     IsBadLine shelf.files words text ⊎ (IsIllegalLine shelf.files words text ⊎ IsShortLine shelf.files words text)
 Explains shelf words SinkFailed text = ⊥

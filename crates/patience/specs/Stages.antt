@@ -1,9 +1,12 @@
 -- What each stage of a job hands on.
-use Rattle.std.specs.Prelude.{ℕ, ◌≡◌, List, Err, ⊤}
+use Rattle.std.specs.Prelude.{ℕ, ◌≡◌, List, Err, Some, ⊤}
 use Rattle.game_rules.specs.declared.RuleParts.{RuleParts}
 use Rattle.deal_reader.specs.declared.fault.DealFault.{DealFault}
 use Rattle.deal_reader.specs.FaultText.{deal_fault_text}
 use Rattle.deal_reader.specs.Position.{position_of}
+use Rattle.seed_deal.specs.declared.fault.SeedFault.{SeedFault}
+use Rattle.seed_deal.specs.FaultText.{seed_fault_text}
+use Rattle.seed_deal.specs.Seeds.{seed_fault}
 use Rattle.line_printer.specs.declared.fault.LineFault.{LineFault}
 use Rattle.line_printer.specs.FaultText.{line_fault_text}
 use Rattle.line_printer.specs.LineFile.{line_of}
@@ -37,6 +40,11 @@ RefusesRules bytes status text =
 abbrev pub RefusesDeal : RuleParts → List ℕ → Status → List ℕ → Type 0
 RefusesDeal rules bytes status text =
     (fault : DealFault) × (position_of rules bytes ≡ Err fault) × (status ≡ DealRefused) × (text ≡ refused_text role.Deal (deal_fault_text fault))
+
+-- no seed deals a board, and the fault is the printed one
+abbrev pub RefusesSeed : RuleParts → Status → List ℕ → Type 0
+RefusesSeed rules status text =
+    (fault : SeedFault) × (seed_fault rules ≡ Some fault) × (status ≡ DealRefused) × (text ≡ refused_text role.Deal (seed_fault_text fault))
 
 -- the line file has the printed fault
 abbrev pub RefusesLine : List ℕ → Status → List ℕ → Type 0

@@ -7,14 +7,16 @@ ghost use Rattle.patience.specs.Stages.{Stops};
 
 use crate::files::{fetch_deal, fetch_line, fetch_rules};
 use crate::report::{Report, Stop};
+use crate::starts::{deal_seed, fetch_start};
 use crate::status::Status;
 use crate::texts as reports;
 use card_piles::NoMemory;
+use deal_reader::write_position;
 use line_printer::write_verdict;
 use outside_io::Shelf;
 use rules_json::write_rules;
 use solve_job::{Limits, solve};
-use solver_words::{Job, read_words};
+use solver_words::{Job, Source, read_words};
 use std::alloc::Global;
 use win_replay::{Replayed, replay};
 
@@ -22,21 +24,26 @@ use win_replay::{Replayed, replay};
 fn solve_deal<S: Shelf>(
     alloc: Global,
     words: &[String],
-    cache: u32,
-    nodes: u64,
+    source: Source,
+    limits: Limits,
     shelf: &mut S,
 ) -> Result<Report, Stop>
-    requires { job_of (texts words.now) ≡ Ok (Job.Solve cache nodes) }
+    requires { job_of (texts words.now) ≡ Ok (Job.Solve source limits.cache limits.nodes) }
+    ensures files { S.files shelf.new ≡ S.files shelf.old }
     ensures never_falls { (name : List ℕ) → S.faults shelf.old name ≤ S.faults shelf.new name }
     ensures done { IfOk result (λ report. Explains
         (record { files = S.files shelf.old; before = S.faults shelf.old; after = S.faults shelf.new }) (texts words.now) report.status report.text.items) }
     ensures stopped { IfErr result (Stops (Explains
         (record { files = S.files shelf.old; before = S.faults shelf.old; after = S.faults shelf.new }) (texts words.now))) }
 {
-    let job = Job::Solve { cache, nodes };
+    let job = Job::Solve {
+        source,
+        cache: limits.cache,
+        nodes: limits.nodes,
+    };
     let rules = fetch_rules(alloc, words, job, shelf)?;
-    let start = fetch_deal(alloc, words, job, &rules, shelf)?;
-    let verdict = solve(alloc, &rules, &start, &Limits { cache, nodes })?;
+    let start = fetch_start(alloc, words, source, &limits, &rules, shelf)?;
+    let verdict = solve(alloc, &rules, &start, &limits)?;
     let text = write_verdict(alloc, &verdict)?;
     Ok(Report {
         status: Status::Done,
@@ -47,6 +54,7 @@ fn solve_deal<S: Shelf>(
 /// Replays the line from the deal.
 fn replay_line<S: Shelf>(alloc: Global, words: &[String], shelf: &mut S) -> Result<Report, Stop>
     requires { job_of (texts words.now) ≡ Ok Job.Replay }
+    ensures files { S.files shelf.new ≡ S.files shelf.old }
     ensures never_falls { (name : List ℕ) → S.faults shelf.old name ≤ S.faults shelf.new name }
     ensures done { IfOk result (λ report. Explains
         (record { files = S.files shelf.old; before = S.faults shelf.old; after = S.faults shelf.new }) (texts words.now) report.status report.text.items) }
@@ -64,9 +72,35 @@ fn replay_line<S: Shelf>(alloc: Global, words: &[String], shelf: &mut S) -> Resu
     Ok(report)
 }
 
+/// Prints the position that the seed deals.
+fn print_deal<S: Shelf>(
+    alloc: Global,
+    words: &[String],
+    seed: u64,
+    shelf: &mut S,
+) -> Result<Report, Stop>
+    requires { job_of (texts words.now) ≡ Ok (Job.Deal seed) }
+    ensures files { S.files shelf.new ≡ S.files shelf.old }
+    ensures never_falls { (name : List ℕ) → S.faults shelf.old name ≤ S.faults shelf.new name }
+    ensures done { IfOk result (λ report. Explains
+        (record { files = S.files shelf.old; before = S.faults shelf.old; after = S.faults shelf.new }) (texts words.now) report.status report.text.items) }
+    ensures stopped { IfErr result (Stops (Explains
+        (record { files = S.files shelf.old; before = S.faults shelf.old; after = S.faults shelf.new }) (texts words.now))) }
+{
+    let rules = fetch_rules(alloc, words, Job::Deal { seed }, shelf)?;
+    let board = deal_seed(alloc, &rules, seed)?;
+    let mut text = write_position(alloc, &rules, &board)?;
+    text.push(b'\n')?;
+    Ok(Report {
+        status: Status::Done,
+        text,
+    })
+}
+
 /// Spells the rules.
 fn spell_rules<S: Shelf>(alloc: Global, words: &[String], shelf: &mut S) -> Result<Report, Stop>
     requires { job_of (texts words.now) ≡ Ok Job.Rules }
+    ensures files { S.files shelf.new ≡ S.files shelf.old }
     ensures never_falls { (name : List ℕ) → S.faults shelf.old name ≤ S.faults shelf.new name }
     ensures done { IfOk result (λ report. Explains
         (record { files = S.files shelf.old; before = S.faults shelf.old; after = S.faults shelf.new }) (texts words.now) report.status report.text.items) }
@@ -90,6 +124,7 @@ fn do_job<S: Shelf>(
     shelf: &mut S,
 ) -> Result<Report, Stop>
     requires { job_of (texts words.now) ≡ Ok job }
+    ensures files { S.files shelf.new ≡ S.files shelf.old }
     ensures never_falls { (name : List ℕ) → S.faults shelf.old name ≤ S.faults shelf.new name }
     ensures done { IfOk result (λ report. Explains
         (record { files = S.files shelf.old; before = S.faults shelf.old; after = S.faults shelf.new }) (texts words.now) report.status report.text.items) }
@@ -97,8 +132,13 @@ fn do_job<S: Shelf>(
         (record { files = S.files shelf.old; before = S.faults shelf.old; after = S.faults shelf.new }) (texts words.now))) }
 {
     match job {
-        Job::Solve { cache, nodes } => solve_deal(alloc, words, cache, nodes, shelf),
+        Job::Solve {
+            source,
+            cache,
+            nodes,
+        } => solve_deal(alloc, words, source, Limits { cache, nodes }, shelf),
         Job::Replay => replay_line(alloc, words, shelf),
+        Job::Deal { seed } => print_deal(alloc, words, seed, shelf),
         Job::Rules => spell_rules(alloc, words, shelf),
     }
 }
@@ -113,6 +153,7 @@ pub fn make_report<S: Shelf>(
     ensures explained { IfOk result (λ report. Explains
         (record { files = S.files shelf.old; before = S.faults shelf.old; after = S.faults shelf.new })
         (texts words.now) report.status report.text.items) }
+    ensures files { S.files shelf.new ≡ S.files shelf.old }
     ensures never_falls { (name : List ℕ) → S.faults shelf.old name ≤ S.faults shelf.new name }
 {
     let job = match read_words(words) {

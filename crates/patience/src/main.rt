@@ -14,7 +14,10 @@ mod jobs;
 mod lines;
 mod report;
 #[cfg(test)]
+mod seed_tests;
+#[cfg(test)]
 mod solved;
+mod starts;
 mod status;
 #[cfg(test)]
 mod stock_games;

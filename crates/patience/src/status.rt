@@ -11,7 +11,7 @@ pub enum Status {
     ShelfFailed,
     /// The rules file has a fault.
     RulesRefused,
-    /// The deal file has a fault.
+    /// The deal file has a fault, or no seed deals a board under the rules.
     DealRefused,
     /// The line file has a fault, or its moves do not win.
     LineRefused,

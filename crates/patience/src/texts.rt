@@ -3,6 +3,7 @@ ghost use Rattle.std.specs.Prelude.{◌≡◌, ◌++◌, IfOk};
 ghost use Rattle.deal_reader.specs.FaultText.{deal_fault_text};
 ghost use Rattle.line_printer.specs.FaultText.{line_fault_text};
 ghost use Rattle.rules_json.specs.Faults.{rules_fault_text};
+ghost use Rattle.seed_deal.specs.FaultText.{seed_fault_text};
 ghost use Rattle.solver_words.specs.FaultText.{word_fault_text};
 ghost use Rattle.patience.specs.Texts.{words_text, failed_text, refused_text, illegal_text, ends_short_text, wins_text};
 
@@ -11,6 +12,7 @@ use crate::status::Status;
 use deal_reader::DealFault;
 use line_printer::LineFault;
 use rules_json::RulesFault;
+use seed_deal::SeedFault;
 use solver_words::WordFault;
 use std::alloc::{AllocError, Global};
 
@@ -50,6 +52,17 @@ pub fn rules_refused(alloc: Global, fault: RulesFault) -> Result<Report, AllocEr
 /// The deal file has a fault.
 pub fn deal_refused(alloc: Global, fault: DealFault) -> Result<Report, AllocError>
     ensures { IfOk result (λ report. (report.status ≡ Status.DealRefused) × (report.text.items ≡ refused_text FileRole.Deal (deal_fault_text fault))) }
+{
+    let text = format!(in alloc; "refused deal {fault}\n")?;
+    Ok(Report {
+        status: Status::DealRefused,
+        text: text.into_bytes(),
+    })
+}
+
+/// No seed deals a board under the rules.
+pub fn seed_refused(alloc: Global, fault: SeedFault) -> Result<Report, AllocError>
+    ensures { IfOk result (λ report. (report.status ≡ Status.DealRefused) × (report.text.items ≡ refused_text FileRole.Deal (seed_fault_text fault))) }
 {
     let text = format!(in alloc; "refused deal {fault}\n")?;
     Ok(Report {

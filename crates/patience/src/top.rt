@@ -1,5 +1,5 @@
 //! The top call.
-ghost use Rattle.std.specs.Prelude.{◌≡◌, ◌<◌, ◌^◌, List, ℕ, length};
+ghost use Rattle.std.specs.Prelude.{◌≡◌, ◌<◌, ◌≤◌, ◌^◌, List, ℕ, length};
 ghost use Rattle.std.specs.Io.KnownBytes.{Appends, Keeps};
 ghost use Rattle.outside_io.specs.Faults.{Rose};
 ghost use Rattle.outside_io.specs.Sink.{AppendsPrefix};
@@ -18,7 +18,7 @@ use std::alloc::Global;
 /// The words are those after the program's name. The text, the job's own or that of a refusal, is built whole and then
 /// put line by line. Where a put fails none follows, the status is `SinkFailed`, and a prefix of the text was written.
 /// `Memory` comes before the first put alone, and then nothing was written. The words are looked at first, then the rules,
-/// the deal and the line, each fetched and read before the next, and the first fault is the answer.
+/// the deal or the seed, and the line, each fetched and read before the next, and the first fault is the answer.
 pub fn patience<S: Shelf, K: Sink>(
     alloc: Global,
     words: &[String],
@@ -44,6 +44,11 @@ pub fn patience<S: Shelf, K: Sink>(
 
     // Without memory nothing was written.
     ensures memory { result ≡ Status.Memory → Keeps (K.written sink.old) (K.written sink.new) }
+
+    // The files of the shelf stay, and no count of faults falls.
+    ensures files { S.files shelf.new ≡ S.files shelf.old }
+    ensures shelf_never_falls { (name : List ℕ) → S.faults shelf.old name ≤ S.faults shelf.new name }
+    ensures sink_never_falls { K.faults sink.old ≤ K.faults sink.new }
 {
     let Ok(report) = make_report(alloc, words, shelf) else {
         return Status::Memory;

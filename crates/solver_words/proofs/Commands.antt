@@ -15,10 +15,11 @@ not_equal a b differ =
 
 pub unknown_command : (words rest : List (String Global)) (command : String Global) (text : List ℕ)
     → words ≡ command ∷ rest → text ≡ string_bytes command
-    → (text ≡ codes "solve" → ⊥) → (text ≡ codes "replay" → ⊥) → (text ≡ codes "rules" → ⊥)
+    → (text ≡ codes "solve" → ⊥) → (text ≡ codes "replay" → ⊥) → (text ≡ codes "deal" → ⊥) → (text ≡ codes "rules" → ⊥)
     → job_of (texts words) ≡ Err UnknownCommand
-unknown_command words rest command text is shown no_solve no_replay no_rules =
+unknown_command words rest command text is shown no_solve no_replay no_deal no_rules =
     let a = not_equal (string_bytes command) (codes "solve") (λ e. no_solve (shown ∙ e)) in
     let b = not_equal (string_bytes command) (codes "replay") (λ e. no_replay (shown ∙ e)) in
-    let d = not_equal (string_bytes command) (codes "rules") (λ e. no_rules (shown ∙ e)) in
-    rw (is, a, b, d) refl
+    let d = not_equal (string_bytes command) (codes "deal") (λ e. no_deal (shown ∙ e)) in
+    let r = not_equal (string_bytes command) (codes "rules") (λ e. no_rules (shown ∙ e)) in
+    rw (is, a, b, d, r) refl

@@ -7,13 +7,17 @@ use Rattle.std.specs.Str.{bytes_eq}
 use Rattle.solver_words.specs.declared.fault.WordFault.{WordFault}
 use Rattle.solver_words.specs.declared.fault.WordFault.TheVariants.{UnknownCommand, MissingValue}
 use Rattle.solver_words.specs.declared.job.Job.{Job}
-use Rattle.solver_words.specs.declared.job.Job.TheVariants.{Solve, Replay, Rules}
+use Rattle.solver_words.specs.declared.job.Job.TheVariants.{Solve, Replay, Deal, Rules}
+use Rattle.solver_words.specs.declared.job.Source.TheVariants.{File, FromSeed}
 use Rattle.solver_words.specs.declared.options.Kind.{Kind}
-use Rattle.solver_words.specs.declared.options.Kind.TheVariants.{Cache, Nodes}
+use Rattle.solver_words.specs.declared.options.Kind.TheVariants.{Cache, Nodes, Seed}
+use Rattle.solver_words.specs.declared.options.Taker.{Taker}
+use Rattle.solver_words.specs.declared.options.Taker.TheVariants.{SolveFile, SolveSeed}
+use Rattle.solver_words.specs.declared.options.Taker.TheVariants as taker
 use Rattle.solver_words.specs.declared.options.Options.{Options}
 use Rattle.solver_words.specs.Numbers.{number_of, number_within, within}
 use Rattle.solver_words.specs.Options.{no_options, kind_at, number_at, with_value, options_from}
-use Rattle.solver_words.specs.Jobs.{after_name, no_more, solve_of, replay_of, rules_of, job_of, IsWithinLimits}
+use Rattle.solver_words.specs.Jobs.{after_name, no_more, names_deal, seed_of, solve_file_of, solve_seed_of, solve_of, replay_of, deal_of, rules_of, job_of, IsWithinLimits}
 use Rattle.solver_words.proofs.Choices.{ok_before}
 
 -- A number within limits is at least the lower one and at most the higher one.
@@ -43,7 +47,7 @@ limits-number_at at low high n word h = limits-within low high n (number_of word
 
 -- The job that solves with these options has its numbers within their limits.
 abbrev AreWithin : Options → Type 0
-AreWithin given = IsWithinLimits (Solve (unwrap_or given.cache 100000) (unwrap_or given.nodes 1000000))
+AreWithin given = IsWithinLimits (Solve File (unwrap_or given.cache 100000) (unwrap_or given.nodes 1000000))
 
 limits-with_value : (at : ℕ) (kind : Kind) (given more : Options) (word : List ℕ) → AreWithin given → with_value at kind given word ≡ Ok more
     → AreWithin more
@@ -57,25 +61,46 @@ limits-with_value at Nodes given more word given_within h =
     let limits = limits-number_at at 1 1000000000000 n word is_number in
     let same : record given { nodes = Some n } ≡ more = cc in
     subst AreWithin same (given_within.0, given_within.1, limits.0, limits.1)
+limits-with_value at Seed given more word given_within h =
+    let (n, is_number, rest) = ok_before (number_at at (number_within 0 18446744073709551615 word)) _ more h in
+    let same : record given { seed = Some n } ≡ more = cc in
+    subst AreWithin same given_within
 
-limits-options_from : (at : ℕ) (given last : Options) (words : List (List ℕ)) → AreWithin given → options_from at given words ≡ Ok last
+limits-options_from : (taker : Taker) (at : ℕ) (given last : Options) (words : List (List ℕ)) → AreWithin given → options_from taker at given words ≡ Ok last
     → AreWithin last
-limits-options_from at given last [] given_within h = let same : given ≡ last = cc in subst AreWithin same given_within
-limits-options_from at given last (option ∷ []) given_within h =
-    let (kind, is_kind, never) = ok_before (kind_at at option given) _ last h in
+limits-options_from taker at given last [] given_within h = let same : given ≡ last = cc in subst AreWithin same given_within
+limits-options_from taker at given last (option ∷ []) given_within h =
+    let (kind, is_kind, never) = ok_before (kind_at taker at option given) _ last h in
     absurd (let no : Err (MissingValue at) ≡ Ok last = never in cc)
-limits-options_from at given last (option ∷ value ∷ rest) given_within h =
-    let (kind, is_kind, h1) = ok_before (kind_at at option given) _ last h in
+limits-options_from taker at given last (option ∷ value ∷ rest) given_within h =
+    let (kind, is_kind, h1) = ok_before (kind_at taker at option given) _ last h in
     let (more, is_more, h2) = ok_before (with_value (at + 1) kind given value) _ last h1 in
-    limits-options_from (at + 2) more last rest (limits-with_value (at + 1) kind given more value given_within is_more) h2
+    limits-options_from taker (at + 2) more last rest (limits-with_value (at + 1) kind given more value given_within is_more) h2
+
+limits-solve_file_of : (words : List (List ℕ)) (job : Job) → solve_file_of words ≡ Ok job → IsWithinLimits job
+limits-solve_file_of words job h =
+    let (one, is_one, h1) = ok_before (after_name words) _ job h in
+    let (given, is_given, h2) = ok_before (options_from SolveFile 3 no_options one) _ job h1 in
+    let same : Solve File (unwrap_or given.cache 100000) (unwrap_or given.nodes 1000000) ≡ job = cc in
+    subst IsWithinLimits same (limits-options_from SolveFile 3 no_options given one (lit≤ tt, lit≤ tt, lit≤ tt, lit≤ tt) is_given)
+
+limits-solve_seed_of : (words : List (List ℕ)) (job : Job) → solve_seed_of words ≡ Ok job → IsWithinLimits job
+limits-solve_seed_of words job h =
+    let (given, is_given, h1) = ok_before (options_from SolveSeed 2 no_options words) _ job h in
+    let (seed, is_seed, h2) = ok_before (seed_of given.seed) _ job h1 in
+    let same : Solve (FromSeed seed) (unwrap_or given.cache 100000) (unwrap_or given.nodes 1000000) ≡ job = cc in
+    subst IsWithinLimits same (limits-options_from SolveSeed 2 no_options given words (lit≤ tt, lit≤ tt, lit≤ tt, lit≤ tt) is_given)
+
+-- where one of two readings is chosen, what holds of both holds of it
+either : (b : Bool) (first second : Result Job WordFault) (job : Job) → (first ≡ Ok job → IsWithinLimits job) → (second ≡ Ok job → IsWithinLimits job)
+    → cond b first second ≡ Ok job → IsWithinLimits job
+either true first second job of_first of_second h = of_first h
+either false first second job of_first of_second h = of_second h
 
 limits-solve_of : (words : List (List ℕ)) (job : Job) → solve_of words ≡ Ok job → IsWithinLimits job
 limits-solve_of words job h =
     let (one, is_one, h1) = ok_before (after_name words) _ job h in
-    let (two, is_two, h2) = ok_before (after_name one) _ job h1 in
-    let (given, is_given, h3) = ok_before (options_from 3 no_options two) _ job h2 in
-    let same : Solve (unwrap_or given.cache 100000) (unwrap_or given.nodes 1000000) ≡ job = cc in
-    subst IsWithinLimits same (limits-options_from 3 no_options given two (lit≤ tt, lit≤ tt, lit≤ tt, lit≤ tt) is_given)
+    either (names_deal one) (solve_file_of one) (solve_seed_of one) job (limits-solve_file_of one job) (limits-solve_seed_of one job) h1
 
 pub if_ok-solve_of : (words : List (List ℕ)) (result : Result Job WordFault) → result ≡ solve_of words → IfOk result IsWithinLimits
 if_ok-solve_of words (Ok job) is = limits-solve_of words job (sym is)
@@ -90,6 +115,14 @@ limits-replay_of words job h =
     let same : Replay ≡ job = cc in
     subst IsWithinLimits same tt
 
+limits-deal_of : (words : List (List ℕ)) (job : Job) → deal_of words ≡ Ok job → IsWithinLimits job
+limits-deal_of words job h =
+    let (one, is_one, h1) = ok_before (after_name words) _ job h in
+    let (given, is_given, h2) = ok_before (options_from taker.Deal 2 no_options one) _ job h1 in
+    let (seed, is_seed, h3) = ok_before (seed_of given.seed) _ job h2 in
+    let same : Deal seed ≡ job = cc in
+    subst IsWithinLimits same tt
+
 limits-rules_of : (words : List (List ℕ)) (job : Job) → rules_of words ≡ Ok job → IsWithinLimits job
 limits-rules_of words job h =
     let (one, is_one, h1) = ok_before (after_name words) _ job h in
@@ -97,19 +130,14 @@ limits-rules_of words job h =
     let same : Rules ≡ job = cc in
     subst IsWithinLimits same tt
 
+no_job : (job : Job) (fault : WordFault) → Err fault ≡ Ok job → IsWithinLimits job
+no_job job fault h = absurd (cc)
+
 pub limits-job_of : (words : List (List ℕ)) (job : Job) → job_of words ≡ Ok job → IsWithinLimits job
 limits-job_of [] job h = cc
 limits-job_of (command ∷ words) job h =
-    let other : Result Job WordFault = Err UnknownCommand in
-    let by_tests : (a b c : Bool) → cond a (solve_of words) (cond b (replay_of words) (cond c (rules_of words) other)) ≡ Ok job → IsWithinLimits job =
-    λ a b c. elim a as (λ a. cond a (solve_of words) (cond b (replay_of words) (cond c (rules_of words) other)) ≡ Ok job → IsWithinLimits job) [
-      | true ↦ λ e. limits-solve_of words job e
-      | false ↦ elim b as (λ b. cond b (replay_of words) (cond c (rules_of words) other) ≡ Ok job → IsWithinLimits job) [
-        | true ↦ λ e. limits-replay_of words job e
-        | false ↦ elim c as (λ c. cond c (rules_of words) other ≡ Ok job → IsWithinLimits job) [
-          | true ↦ λ e. limits-rules_of words job e
-          | false ↦ λ e. absurd (let no : Err UnknownCommand ≡ Ok job = e in cc)
-        ]
-      ]
-    ] in
-    by_tests (bytes_eq command (codes "solve")) (bytes_eq command (codes "replay")) (bytes_eq command (codes "rules")) h
+    either (bytes_eq command (codes "solve")) (solve_of words) _ job (limits-solve_of words job)
+    (either (bytes_eq command (codes "replay")) (replay_of words) _ job (limits-replay_of words job)
+    (either (bytes_eq command (codes "deal")) (deal_of words) _ job (limits-deal_of words job)
+    (either (bytes_eq command (codes "rules")) (rules_of words) _ job (limits-rules_of words job) (no_job job UnknownCommand))))
+    h

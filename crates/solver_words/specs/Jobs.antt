@@ -1,11 +1,14 @@
 -- What the command words name: a job, or the first fault.
-use Rattle.std.specs.Prelude.{ℕ, ◌≤◌, ⊤, List, [], ◌∷◌, Bool, not, nat_eq, unwrap_or, Result, Ok, Err, codes, if◌then◌else◌}
+use Rattle.std.specs.Prelude.{ℕ, ◌≤◌, ⊤, List, [], ◌∷◌, Bool, false, not, Option, Some, None, nat_eq, unwrap_or, Result, Ok, Err, codes, if◌then◌else◌}
 use Rattle.std.specs.List.{starts_with}
 use Rattle.std.specs.Str.{bytes_eq}
 use Rattle.solver_words.specs.declared.fault.WordFault.{WordFault}
-use Rattle.solver_words.specs.declared.fault.WordFault.TheVariants.{NoCommand, UnknownCommand, MissingName, UnknownOption}
+use Rattle.solver_words.specs.declared.fault.WordFault.TheVariants.{NoCommand, UnknownCommand, MissingName, UnknownOption, MissingSeed}
 use Rattle.solver_words.specs.declared.job.Job.{Job}
 use Rattle.solver_words.specs.declared.job.Job.TheVariants as job
+use Rattle.solver_words.specs.declared.job.Source.TheVariants.{File, FromSeed}
+use Rattle.solver_words.specs.declared.options.Options.{Options}
+use Rattle.solver_words.specs.declared.options.Taker.TheVariants as taker
 use Rattle.solver_words.specs.Choice.{◌>>=◌}
 use Rattle.solver_words.specs.Options.{no_options, options_from}
 
@@ -23,17 +26,43 @@ abbrev pub no_more : ℕ → List (List ℕ) → Result (Unit {0}) WordFault
 no_more at [] = Ok tt
 no_more at (word ∷ rest) = Err (UnknownOption at)
 
--- after `solve`: the names of the rules and the deal, then options
+-- whether the next word names a deal
+abbrev pub names_deal : List (List ℕ) → Bool
+names_deal [] = false
+names_deal (word ∷ rest) = is_name word
+
+-- the seed, which has to be given
+abbrev pub seed_of : Option ℕ → Result ℕ WordFault
+seed_of None = Err MissingSeed
+seed_of (Some seed) = Ok seed
+
+-- after `solve` and the name of the rules: the name of the deal, then options
+abbrev pub solve_file_of : List (List ℕ) → Result Job WordFault
+solve_file_of words =
+    after_name words >>= λ words. options_from taker.SolveFile 3 no_options words >>= λ given.
+    Ok (job.Solve File (unwrap_or given.cache 100000) (unwrap_or given.nodes 1000000))
+
+-- the same with no name of a deal: options, a seed among them
+abbrev pub solve_seed_of : List (List ℕ) → Result Job WordFault
+solve_seed_of words =
+    options_from taker.SolveSeed 2 no_options words >>= λ given. seed_of given.seed >>= λ seed.
+    Ok (job.Solve (FromSeed seed) (unwrap_or given.cache 100000) (unwrap_or given.nodes 1000000))
+
+-- after `solve`: the name of the rules, then that of a deal or a seed
 abbrev pub solve_of : List (List ℕ) → Result Job WordFault
-solve_of words =
-    after_name words >>= λ words. after_name words >>= λ words. options_from 3 no_options words >>= λ given.
-    Ok (job.Solve (unwrap_or given.cache 100000) (unwrap_or given.nodes 1000000))
+solve_of words = after_name words >>= λ words. if names_deal words then solve_file_of words else solve_seed_of words
 
 -- after `replay`: the names of the rules, the deal and the line
 abbrev pub replay_of : List (List ℕ) → Result Job WordFault
 replay_of words =
     after_name words >>= λ words. after_name words >>= λ words. after_name words >>= λ words. no_more 4 words >>= λ _.
     Ok job.Replay
+
+-- after `deal`: the name of the rules, then the seed
+abbrev pub deal_of : List (List ℕ) → Result Job WordFault
+deal_of words =
+    after_name words >>= λ words. options_from taker.Deal 2 no_options words >>= λ given. seed_of given.seed >>= λ seed.
+    Ok (job.Deal seed)
 
 -- after `rules`: the name of the rules
 abbrev pub rules_of : List (List ℕ) → Result Job WordFault
@@ -45,17 +74,21 @@ job_of [] = Err NoCommand
 job_of (command ∷ words) =
     if bytes_eq command (codes "solve") then solve_of words
     else (if bytes_eq command (codes "replay") then replay_of words
+    else (if bytes_eq command (codes "deal") then deal_of words
     else (if bytes_eq command (codes "rules") then rules_of words
-    else Err UnknownCommand))
+    else Err UnknownCommand)))
 
 -- how many files the job has, which the words from 1 on name
 abbrev pub name_count : Job → ℕ
-name_count (job.Solve cache nodes) = 2
+name_count (job.Solve File cache nodes) = 2
+name_count (job.Solve (FromSeed seed) cache nodes) = 1
 name_count job.Replay = 3
+name_count (job.Deal seed) = 1
 name_count job.Rules = 1
 
--- the numbers of the job are within their limits
+-- the numbers of the job are within their limits; a seed may be any number
 abbrev pub IsWithinLimits : Job → Type 0
-IsWithinLimits (job.Solve cache nodes) = (1 ≤ cache) × (cache ≤ 4000000) × (1 ≤ nodes) × (nodes ≤ 1000000000000)
+IsWithinLimits (job.Solve source cache nodes) = (1 ≤ cache) × (cache ≤ 4000000) × (1 ≤ nodes) × (nodes ≤ 1000000000000)
 IsWithinLimits job.Replay = ⊤
+IsWithinLimits (job.Deal seed) = ⊤
 IsWithinLimits job.Rules = ⊤

@@ -21,6 +21,8 @@ pub enum WordFault {
     MissingValue(u32),
     /// The word at this place is no value of the option before it.
     BadOptionValue(u32),
+    /// The command deals from a seed, and `--seed` was not given.
+    MissingSeed,
 }
 
 impl fmt::Display for WordFault {
@@ -35,6 +37,7 @@ impl fmt::Display for WordFault {
             WordFault::RepeatedOption(place) => write!(f, "repeated-option {place}"),
             WordFault::MissingValue(place) => write!(f, "missing-value {place}"),
             WordFault::BadOptionValue(place) => write!(f, "bad-option-value {place}"),
+            WordFault::MissingSeed => f.write_str("missing-seed"),
         }
     }
 }

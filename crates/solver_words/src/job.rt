@@ -1,13 +1,30 @@
 // The jobs that words can name.
 
+/// Where the deal to be solved comes from.
+#[derive(Clone, Copy, Debug, PartialEq, Eq)]
+pub enum Source {
+    /// The deal file, whose name is word 2.
+    File,
+    /// The seed.
+    FromSeed(u64),
+}
+
 /// What is to be done. The file names are the words 1 (the rules), 2 (the deal) and 3 (the line).
 #[derive(Clone, Copy, Debug, PartialEq, Eq)]
 pub enum Job {
     /// Solves the deal under the rules. At most `cache` finished boards are remembered, 1 to 4,000,000,
     /// and at most `nodes` boards are expanded, 1 to 1,000,000,000,000.
-    Solve { cache: u32, nodes: u64 },
+    Solve {
+        source: Source,
+        cache: u32,
+        nodes: u64,
+    },
     /// Replays the line from the deal under the rules.
     Replay,
+    /// Prints the position that the seed deals under the rules.
+    Deal {
+        seed: u64,
+    },
     /// Prints the rules in their one spelling.
     Rules,
 }

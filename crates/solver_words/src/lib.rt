@@ -16,5 +16,5 @@ mod tests;
 mod words;
 
 pub use fault::WordFault;
-pub use job::Job;
+pub use job::{Job, Source};
 pub use words::read_words;

@@ -1,4 +1,4 @@
-use crate::{Job, WordFault, read_words};
+use crate::{Job, Source, WordFault, read_words};
 use std::alloc::{AllocError, Global};
 use std::test::Fail;
 
@@ -13,7 +13,20 @@ fn split(alloc: Global, line: &str) -> Result<Vec<String>, AllocError> {
 
 #[test]
 fn reads_each_command(rt: HostRuntime) -> Result<(), Fail> {
-    let solve = |cache, nodes| Ok(Job::Solve { cache, nodes });
+    let solve = |cache, nodes| {
+        Ok(Job::Solve {
+            source: Source::File,
+            cache,
+            nodes,
+        })
+    };
+    let seeded = |seed, cache, nodes| {
+        Ok(Job::Solve {
+            source: Source::FromSeed(seed),
+            cache,
+            nodes,
+        })
+    };
     for (line, want) in [
         ("solve R D", solve(100_000, 1_000_000)),
         ("solve -x ", solve(100_000, 1_000_000)),
@@ -26,6 +39,12 @@ fn reads_each_command(rt: HostRuntime) -> Result<(), Fail> {
         ("solve R D --cache 4000000", solve(4_000_000, 1_000_000)),
         ("solve R D --cache 7 --nodes 5", solve(7, 5)),
         ("solve R D --nodes 5 --cache 7", solve(7, 5)),
+        ("solve R --seed 0", seeded(0, 100_000, 1_000_000)),
+        (
+            "solve R --nodes 5 --seed 18446744073709551615 --cache 7",
+            seeded(18_446_744_073_709_551_615, 7, 5),
+        ),
+        ("deal R --seed 42", Ok(Job::Deal { seed: 42 })),
         ("replay R D L", Ok(Job::Replay)),
         ("rules R", Ok(Job::Rules)),
         ("rules -", Ok(Job::Rules)),
@@ -43,11 +62,25 @@ fn refuses_with_the_first_fault(rt: HostRuntime) -> Result<(), Fail> {
     for (line, want) in [
         ("", WordFault::UnknownCommand),
         ("Solve R D", WordFault::UnknownCommand),
-        ("deal R --seed 1", WordFault::UnknownCommand),
+        ("Deal R --seed 1", WordFault::UnknownCommand),
         ("solve", WordFault::MissingName),
-        ("solve R", WordFault::MissingName),
-        ("solve R --nodes 5", WordFault::MissingName),
-        ("solve R --seed 5", WordFault::MissingName),
+        ("solve --seed 1", WordFault::MissingName),
+        ("solve R", WordFault::MissingSeed),
+        ("solve R --nodes 5", WordFault::MissingSeed),
+        ("solve R --nodes", WordFault::MissingValue(2)),
+        ("solve R --seed 1 --seed 1", WordFault::RepeatedOption(4)),
+        ("solve R --seed x", WordFault::BadOptionValue(3)),
+        ("solve R --nodes 0 --seed 1", WordFault::BadOptionValue(3)),
+        (
+            "solve R --seed 18446744073709551616",
+            WordFault::BadOptionValue(3),
+        ),
+        ("deal", WordFault::MissingName),
+        ("deal R", WordFault::MissingSeed),
+        ("deal R D", WordFault::UnknownOption(2)),
+        ("deal R --nodes 5", WordFault::UnknownOption(2)),
+        ("deal R --seed", WordFault::MissingValue(2)),
+        ("rules R --seed 5", WordFault::UnknownOption(2)),
         ("solve -- D", WordFault::MissingName),
         ("replay R D", WordFault::MissingName),
         ("replay R D --nodes 5", WordFault::MissingName),
@@ -75,7 +108,7 @@ fn refuses_with_the_first_fault(rt: HostRuntime) -> Result<(), Fail> {
             WordFault::BadOptionValue(4),
         ),
         ("solve R D --nodes x --what", WordFault::BadOptionValue(4)),
-        ("solve R --cache 5", WordFault::MissingName),
+        ("solve R --cache 5", WordFault::MissingSeed),
         ("solve R D --Cache 5", WordFault::UnknownOption(3)),
         ("replay R D L --cache 5", WordFault::UnknownOption(4)),
         ("rules R --cache 5", WordFault::UnknownOption(2)),
@@ -128,6 +161,7 @@ fn prints_each_fault(rt: HostRuntime) -> Result<(), Fail> {
         (WordFault::RepeatedOption(5), "repeated-option 5"),
         (WordFault::MissingValue(3), "missing-value 3"),
         (WordFault::BadOptionValue(4), "bad-option-value 4"),
+        (WordFault::MissingSeed, "missing-seed"),
     ] {
         assert_eq!(rt; format!(in rt.alloc(); "{fault}")?.as_str(), want);
     }

@@ -1,10 +1,10 @@
 // The words of a command line.
 ghost use Rattle.std.specs.Prelude.{◌≡◌, ◌+◌, ◌<◌, ◌≤◌, ◌^◌, length, Ok, Err, IfOk, IfErr};
 ghost use Rattle.solver_words.specs.Texts.{texts};
-ghost use Rattle.solver_words.specs.Jobs.{is_name as is_name_of, after_name as after_name_of, no_more as no_more_of, solve_of, replay_of, rules_of, job_of, name_count, IsWithinLimits};
+ghost use Rattle.solver_words.specs.Jobs.{is_name as is_name_of, after_name as after_name_of, no_more as no_more_of, names_deal as names_deal_of, solve_file_of, solve_seed_of, solve_of, replay_of, deal_of, rules_of, job_of, name_count, IsWithinLimits};
 
-use crate::options::read_options;
-use crate::{Job, WordFault};
+use crate::options::{Taker, read_options};
+use crate::{Job, Source, WordFault};
 
 const DEFAULT_CACHE: u32 = 100_000;
 
@@ -39,18 +39,57 @@ fn no_more(at: u32, words: &[String]) -> Result<(), WordFault>
     }
 }
 
+// Whether the next word names a deal.
+fn names_deal(words: &[String]) -> bool
+    ensures { result ≡ names_deal_of (texts words.now) }
+{
+    match words.first() {
+        Some(word) => is_name(word.as_str()),
+        None => false,
+    }
+}
+
+fn solve_file(words: &[String]) -> Result<Job, WordFault>
+    requires { length words.now + 2 < 2 ^ 32 }
+    ensures job { result ≡ solve_file_of (texts words.now) }
+    ensures names { IfOk result (λ job. name_count job ≤ length words.now + 1) }
+{
+    let words = after_name(words)?;
+    let given = read_options(Taker::SolveFile, 3, words)?;
+    Ok(Job::Solve {
+        source: Source::File,
+        cache: given.cache.unwrap_or(DEFAULT_CACHE),
+        nodes: given.nodes.unwrap_or(DEFAULT_NODES),
+    })
+}
+
+fn solve_seed(words: &[String]) -> Result<Job, WordFault>
+    requires { length words.now + 2 < 2 ^ 32 }
+    ensures job { result ≡ solve_seed_of (texts words.now) }
+    ensures names { IfOk result (λ job. name_count job ≤ length words.now + 1) }
+{
+    let given = read_options(Taker::SolveSeed, 2, words)?;
+    let Some(seed) = given.seed else {
+        return Err(WordFault::MissingSeed);
+    };
+    Ok(Job::Solve {
+        source: Source::FromSeed(seed),
+        cache: given.cache.unwrap_or(DEFAULT_CACHE),
+        nodes: given.nodes.unwrap_or(DEFAULT_NODES),
+    })
+}
+
 fn solve(words: &[String]) -> Result<Job, WordFault>
     requires { length words.now + 1 < 2 ^ 32 }
     ensures job { result ≡ solve_of (texts words.now) }
     ensures names { IfOk result (λ job. name_count job ≤ length words.now) }
 {
     let words = after_name(words)?;
-    let words = after_name(words)?;
-    let given = read_options(3, words)?;
-    Ok(Job::Solve {
-        cache: given.cache.unwrap_or(DEFAULT_CACHE),
-        nodes: given.nodes.unwrap_or(DEFAULT_NODES),
-    })
+    if names_deal(words) {
+        solve_file(words)
+    } else {
+        solve_seed(words)
+    }
 }
 
 fn replay(words: &[String]) -> Result<Job, WordFault>
@@ -62,6 +101,19 @@ fn replay(words: &[String]) -> Result<Job, WordFault>
     let words = after_name(words)?;
     no_more(4, words)?;
     Ok(Job::Replay)
+}
+
+fn deal(words: &[String]) -> Result<Job, WordFault>
+    requires { length words.now + 1 < 2 ^ 32 }
+    ensures job { result ≡ deal_of (texts words.now) }
+    ensures names { IfOk result (λ job. name_count job ≤ length words.now) }
+{
+    let words = after_name(words)?;
+    let given = read_options(Taker::Deal, 2, words)?;
+    match given.seed {
+        Some(seed) => Ok(Job::Deal { seed }),
+        None => Err(WordFault::MissingSeed),
+    }
 }
 
 fn rules(words: &[String]) -> Result<Job, WordFault>
@@ -88,6 +140,7 @@ pub fn read_words(words: &[String]) -> Result<Job, WordFault>
     match command.as_str() {
         "solve" => solve(words),
         "replay" => replay(words),
+        "deal" => deal(words),
         "rules" => rules(words),
         _ => Err(WordFault::UnknownCommand),
     }

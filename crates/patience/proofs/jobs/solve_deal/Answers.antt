@@ -6,10 +6,10 @@ use Rattle.patience.proofs.jobs.solve_deal.Goals as goal
 
 pub solve-requires-clause-some_cache : goal.solve-requires-clause-some_cache
 solve-requires-clause-some_cache g c =
-    let limits = limits-job_of (texts c.args.words.now) (Solve c.args.cache c.args.nodes) c.requires in
+    let limits = limits-job_of (texts c.args.words.now) (Solve c.args.source c.args.limits.cache c.args.limits.nodes) c.requires in
     omega (arith, limits.0)
 
 pub solve-requires-clause-some_nodes : goal.solve-requires-clause-some_nodes
 solve-requires-clause-some_nodes g c =
-    let limits = limits-job_of (texts c.args.words.now) (Solve c.args.cache c.args.nodes) c.requires in
+    let limits = limits-job_of (texts c.args.words.now) (Solve c.args.source c.args.limits.cache c.args.limits.nodes) c.requires in
     omega (arith, limits.0, limits.2)

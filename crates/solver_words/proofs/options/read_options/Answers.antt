@@ -9,8 +9,8 @@ loop-option-preserved c =
     let given = c.loop-option.given in
     let first = c.in-Some.ensures.cases in
     let second = c.in-Some-split_first.ensures.cases in (
-      options_step at given c.in_ok-given.given c.in_ok-kind.kind _ _ _ _ _ first.0 second.0
-          (sym (c.in_ok-kind.ensures ∙ ap (λ word. kind_at at word given) c.as_str.ensures.value))
+      options_step c.args.taker at given c.in_ok-given.given c.in_ok-kind.kind _ _ _ _ _ first.0 second.0
+          (sym (c.in_ok-kind.ensures ∙ ap (λ word. kind_at c.args.taker at word given) c.as_str.ensures.value))
           (sym (c.in_ok-given.ensures ∙ ap (with_value (at + 1) c.in_ok-kind.kind given) c.as_str-in-Some.ensures.value))
           ∙ c.loop-option.invariant.0,
       omega arith,

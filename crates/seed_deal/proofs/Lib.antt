@@ -1,0 +1,5 @@
+pub mod Decks
+pub mod Laying
+pub mod Steps
+pub mod Dealt
+pub mod Shuffling

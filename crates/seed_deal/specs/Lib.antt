@@ -1,0 +1,5 @@
+pub mod FaultText
+pub mod Shuffle
+pub mod Layout
+pub mod Seeds
+pub mod Starts
