@@ -26,6 +26,10 @@ mod tests;
 mod texts;
 mod top;
 
+ghost use Rattle.std.specs.Prelude.{◌≡◌};
+ghost use Rattle.std.specs.Process.{exit_status};
+ghost use Rattle.patience.specs.Texts.{status_number};
+
 use outside_io::{DiskShelf, StdSink};
 use status::Status;
 use std::alloc::Global;
@@ -48,6 +52,13 @@ fn words(rt: &HostRuntime) -> Result<Vec<String>, u8> {
     Ok(words)
 }
 
+/// The exit code of a run that ended so.
+fn exit_code(status: Status) -> ExitCode
+    ensures { exit_status result ≡ status_number status }
+{
+    ExitCode::from(status.number())
+}
+
 fn main(rt: HostRuntime) -> ExitCode {
     let words = match words(&rt) {
         Ok(words) => words,
@@ -59,5 +70,5 @@ fn main(rt: HostRuntime) -> ExitCode {
     let mut shelf = DiskShelf::new(&rt);
     let mut sink = StdSink::new(&rt);
     let status = patience(rt.alloc(), &words, &mut shelf, &mut sink);
-    ExitCode::from(status.number())
+    exit_code(status)
 }
