@@ -65,11 +65,11 @@ fn parts(
     })
 }
 
-/// Whether the board has one pile with these cards, and these heights of clubs and diamonds.
+/// Whether the first pile has these cards, and the board these heights of clubs and diamonds.
 fn shows(rules: &Rules, board: &Board, cards: &[Card], clubs: u8, diamonds: u8) -> bool
     requires { Belongs rules.now board.now }
 {
-    if rules.piles() != 1 || rules.foundation_count() < 2 {
+    if rules.piles() == 0 || rules.foundation_count() < 2 {
         return false;
     }
     board.pile(0) == cards && board.height(0) == clubs && board.height(1) == diamonds
