@@ -18,7 +18,9 @@ RULES = b'{"max rank":2,"tableau":{"piles":2}}'
 DEAL = b'{"tableau":[["AC","2C"]],"foundations":[0,2,2,2]}'
 LINE = b"t0 t1 1\n"
 
-FILES = {"rules": RULES, "deal": DEAL, "line": LINE, "cut": RULES[:-1], "empty": b"{}"}
+FREECELL = b'{"tableau":{"piles":8,"build":"red-black"},"cells":{"count":4}}'
+
+FILES = {"rules": RULES, "deal": DEAL, "line": LINE, "cut": RULES[:-1], "empty": b"{}", "freecell": FREECELL}
 
 WON = b"winnable\nnodes 3\nnarrow 0\nmoves 3\nt0 t1 1\nt0 f0\nt1 f0\n"
 
@@ -32,7 +34,7 @@ ROWS = [
     ("a deal with no card", [b"solve", b"rules", b"empty"], 13, b"refused deal missing-card AC\n", None),
     ("a line that ends too soon", [b"replay", b"rules", b"deal", b"line"], 14, b"refused line ends-short\n", None),
     ("a full disk", [b"solve", b"rules", b"deal"], 15, None, None),
-    ("no memory", [b"solve", b"rules", b"deal", b"--cache", b"4000000"], 16, b"", 64_000_000),
+    ("no memory", [b"solve", b"freecell", b"--seed", b"1"], 16, b"", 20_000_000),
 ]
 
 

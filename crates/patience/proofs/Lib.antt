@@ -4,3 +4,4 @@ pub mod Replay
 pub mod Follow
 pub mod Rulings
 pub mod Fetched
+pub mod PlainWords

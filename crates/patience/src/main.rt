@@ -12,6 +12,8 @@ mod files;
 mod hostile;
 mod jobs;
 mod lines;
+#[cfg(test)]
+mod plain_words_tests;
 mod report;
 #[cfg(test)]
 mod seed_tests;

@@ -51,7 +51,7 @@ pub fn printed(
 #[test]
 fn verdicts_are_printed_whole(rt: HostRuntime) -> Result<(), Fail> {
     let alloc = rt.alloc();
-    let rows: [(&str, &str, &str, &str); 9] = [
+    let rows: [(&str, &str, &str, &str); 11] = [
         // won before any move
         (
             r#"{"max rank":1}"#,
@@ -107,6 +107,20 @@ fn verdicts_are_printed_whole(rt: HostRuntime) -> Result<(), Fail> {
             r#"{"tableau":[["AC"]],"foundations":[0,1,1,1,1,1,1,1]}"#,
             "solve rules deal",
             "winnable\nnodes 1\nnarrow 0\nmoves 1\nt0 f0\n",
+        ),
+        // an ace on the greatest rank, in a hole that wraps
+        (
+            r#"{"max rank":3,"tableau":{"piles":1,"spaces":"none"},"hole":{}}"#,
+            r#"{"tableau":[["AC"]],"hole":["2C","3C","AD","2D","3D","AH","2H","3H","AS","2S","3S"]}"#,
+            "solve rules deal",
+            "winnable\nnodes 1\nnarrow 0\nmoves 1\nt0 h\n",
+        ),
+        // and in one that does not
+        (
+            r#"{"max rank":3,"tableau":{"piles":1,"spaces":"none"},"hole":{"wrap":false}}"#,
+            r#"{"tableau":[["AC"]],"hole":["2C","3C","AD","2D","3D","AH","2H","3H","AS","2S","3S"]}"#,
+            "solve rules deal",
+            "unwinnable\nnodes 1\nnarrow 0\n",
         ),
         // a cell for the two
         (

@@ -160,26 +160,32 @@ fn a_fetch_that_fails_is_told_by_its_file(rt: HostRuntime) -> Result<(), Fail> {
     Ok(())
 }
 
+/// Whether a put that fails leaves the lines before it and so many bytes of its own.
+fn leaves_a_prefix(alloc: Global, call: usize, kept: u8, before: usize) -> Result<bool, Fail> {
+    let mut shelf = shelf(alloc)?;
+    let mut sink = MemorySink::new(alloc, 1000)?;
+    sink.fail_at(call as u64, u64::from(kept))?;
+    let words = words(alloc, "solve rules deal")?;
+    if words.len() > 100 {
+        return Ok(false);
+    }
+    let status = patience(alloc, &words, &mut shelf, &mut sink);
+    Ok(
+        status == Status::SinkFailed
+            && WON.as_bytes().starts_with(sink.bytes())
+            && sink.bytes().len() == before.saturating_add(usize::from(kept)),
+    )
+}
+
 #[test]
 fn a_put_that_fails_leaves_a_prefix(rt: HostRuntime) -> Result<(), Fail> {
-    let alloc = rt.alloc();
-    let mut length: usize = 0;
-    for (call, line) in WON.split_inclusive('\n').enumerate() {
-        let mut shelf = shelf(alloc)?;
-        let mut sink = MemorySink::new(alloc, 1000)?;
-        sink.fail_at(call as u64, 1)?;
-        let words = words(alloc, "solve rules deal")?;
-        assert!(rt; words.len() < 100);
-        let status = patience(alloc, &words, &mut shelf, &mut sink);
-        assert_eq!(rt; status, Status::SinkFailed, "at call {call}");
-        let whole = WON.as_bytes().starts_with(sink.bytes());
-        assert!(rt; whole, "at call {call}");
-        assert_eq!(rt;
-            sink.bytes().len(),
-            length.saturating_add(1),
-            "at call {call}"
-        );
-        length = length.saturating_add(line.len());
+    for kept in [0, 1] {
+        let mut before: usize = 0;
+        for (call, line) in WON.split_inclusive('\n').enumerate() {
+            let leaves = leaves_a_prefix(rt.alloc(), call, kept, before)?;
+            assert!(rt; leaves, "at call {call} with {kept}");
+            before = before.saturating_add(line.len());
+        }
     }
     Ok(())
 }
