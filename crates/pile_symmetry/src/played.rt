@@ -1,4 +1,4 @@
-//! Keys on boards that come up in play: two hundred of each of the games of games/, and of one with a reserve.
+//! Keys on boards that come up in play: two hundred of each of six games.
 ghost use Rattle.std.specs.Prelude.{IfOk, IfSome};
 ghost use Rattle.game_rules.specs.Belonging.{Belongs};
 
@@ -34,23 +34,7 @@ impl Dice {
     }
 }
 
-fn hole(wrap: bool) -> Goal {
-    Goal::Hole {
-        wrap,
-        start: HoleStart::Dealt,
-    }
-}
-
-fn foundations(started: bool, complete_runs: bool) -> Goal {
-    Goal::Foundations {
-        base: 1,
-        started,
-        take_back: false,
-        complete_runs,
-    }
-}
-
-/// The rules of a game.
+/// The rules of a game on 52 or 104 cards.
 fn profile(name: &str) -> RuleParts {
     let mut parts = small_parts();
     parts.max_rank = 13;
@@ -69,35 +53,16 @@ fn profile(name: &str) -> RuleParts {
             parts.piles = 7;
             parts.face = Face::TopUp;
             parts.build = Build::RedBlack;
-            parts.groups = Groups::Run;
-            parts.group_build = Build::RedBlack;
-            parts.spaces = Spaces::King;
             parts.stock = 24;
-            parts.draw = 3;
-            parts.redeals = Redeals::Unlimited;
+            parts.redeals = Redeals::Times(2);
         }
         "black-hole" => {
             parts.piles = 17;
             parts.spaces = Spaces::NoFill;
-            parts.goal = hole(true);
-        }
-        "golf" => {
-            parts.piles = 7;
-            parts.spaces = Spaces::NoFill;
-            parts.goal = hole(false);
-            parts.stock = 16;
-            parts.target = Target::ToHole;
-        }
-        "beleaguered-castle" => {
-            parts.piles = 8;
-            parts.build = Build::AnySuit;
-            parts.goal = foundations(true, false);
-        }
-        "little-cell" => {
-            parts.max_rank = 6;
-            parts.piles = 4;
-            parts.cells = 1;
-            parts.build = Build::RedBlack;
+            parts.goal = Goal::Hole {
+                wrap: true,
+                start: HoleStart::Dealt,
+            };
         }
         "reserve" => {
             parts.piles = 10;
@@ -109,9 +74,6 @@ fn profile(name: &str) -> RuleParts {
             parts.piles = 10;
             parts.face = Face::TopUp;
             parts.build = Build::AnySuit;
-            parts.groups = Groups::Run;
-            parts.group_build = Build::SameSuit;
-            parts.goal = foundations(false, true);
             parts.stock = 50;
             parts.target = Target::ToTableau;
         }
@@ -138,20 +100,15 @@ fn shuffled(alloc: Global, n: u8, dice: &mut Dice) -> Result<Vec<u8>, AllocError
     Ok(numbers)
 }
 
-/// The cards that are dealt, in an order that looks random: without the aces if they lie on the foundations or the game
-/// has none.
+/// The cards of the decks in an order that looks random, without the aces where the game has none.
 fn deck(alloc: Global, rules: &Rules, dice: &mut Dice) -> Result<Items<Card>, AllocError> {
     let mut cards = Items::new(alloc);
-    let lowest: u8 = if rules.row_count() > 0 || rules.goal().is_started() {
-        2
-    } else {
-        1
-    };
+    let has_aces = rules.row_count() == 0;
     let decks = rules.decks();
     for number in &shuffled(alloc, decks.saturating_mul(52), dice)? {
         let number = *number % 52;
         if let Some(card) = Card::new(suit_at(number / 13), number % 13 + 1) {
-            if lowest <= card.rank() && card.rank() <= rules.max_rank() {
+            if has_aces || card.rank() > 1 {
                 cards.push(card)?;
             }
         }
@@ -228,11 +185,6 @@ fn deal(alloc: Global, rules: &Rules, dice: &mut Dice) -> Result<Board, Fail>
     }
     for _ in 0..rules.reserve() {
         parts.reserve.push(cards.pop())?;
-    }
-    if rules.goal().is_started() {
-        for _ in 0..rules.foundation_count() {
-            parts.foundations.push(1)?;
-        }
     }
     parts.redeals_left = rules.redeals().most_left();
     deal_piles(alloc, rules, &mut cards, &mut parts)?;
@@ -405,12 +357,9 @@ fn keys_of_played_boards_are_right(rt: HostRuntime) -> Result<(), Fail> {
         "freecell",
         "klondike",
         "black-hole",
-        "golf",
+        "reserve",
         "spider",
         "gaps",
-        "beleaguered-castle",
-        "little-cell",
-        "reserve",
     ] {
         let rules = Rules::new(profile(name))?;
         assert!(rt; game_is_right(rt.alloc(), &rules, &mut dice)?, "at {name}");
