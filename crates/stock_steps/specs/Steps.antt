@@ -100,9 +100,11 @@ stock_steps_after rules (suc most) deals seen board =
 abbrev pub most_stock_moves : Board → ℕ
 most_stock_moves board = (length board.stock + length board.waste + 1) * (board.redeals_left + 2)
 
--- all stock steps of a board, by their number of stock moves and then in the order of moves
+-- all stock steps of a board, by their number of stock moves and then in the order of moves; none
+-- where the stock does not deal to the waste
 abbrev pub stock_steps : RuleParts → Board → List Step
-stock_steps rules board = stock_steps_after rules (most_stock_moves board) 0 [] board
+stock_steps rules board =
+    if deals_to_waste rules.target then stock_steps_after rules (most_stock_moves board) 0 [] board else []
 
 -- the steps of a board without a safe move: all legal moves, and where the stock deals to the waste
 -- the legal carries from other places than the waste, and then the stock steps

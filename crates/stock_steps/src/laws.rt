@@ -17,10 +17,9 @@ ghost use Rattle.stock_steps.specs.StockSteps.{ComesAgain, Commute, HasWinningSt
 /// The list of stock steps holds exactly these, each once, by the number of stock moves and then in
 /// the order of moves.
 pub fn stock_steps_are_listed()
-    ensures exact { (rules : RuleParts) (board : Board) (step : Step) → IsPlayable rules → IsTrue (deals_to_waste rules.target)
+    ensures exact { (rules : RuleParts) (board : Board) (step : Step) → IsPlayable rules
         → Contains (stock_steps rules board) step ↔ StockStep rules board step }
-    ensures once { (rules : RuleParts) (board : Board) → IsPlayable rules → IsTrue (deals_to_waste rules.target)
-        → AllPairs (λ a b. a ≢ b) (stock_steps rules board) }
+    ensures once { (rules : RuleParts) (board : Board) → IsPlayable rules → AllPairs (λ a b. a ≢ b) (stock_steps rules board) }
     ensures order { (rules : RuleParts) (board : Board) → IsPlayable rules → IsTrue (deals_to_waste rules.target)
         → IsAlongRun rules board (stock_steps rules board) }
 {}
