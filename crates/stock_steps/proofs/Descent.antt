@@ -1,6 +1,6 @@
 -- A board that wins within n + 1 has a step to a board that wins within n.
-use Rattle.std.proofs.Common.{◌≡◌, ◌⊎◌, ◌↔◌, ◌||◌, inl, inr, ℕ, zero, suc, ◌+◌, ◌<◌, ◌≤◌, Bool, true, false, ◌&&◌, not, List, [], ◌∷◌, length, refl, ap, sym, ◌∙◌, subst, arith, IsTrue, None}
-use Rattle.std.specs.List.{Contains, filter, list_any}
+use Rattle.std.proofs.Common.{◌≡◌, ◌⊎◌, inl, inr, ℕ, zero, suc, ◌+◌, ◌<◌, ◌≤◌, Bool, true, false, ◌&&◌, not, List, [], ◌∷◌, length, refl, ap, sym, ◌∙◌, subst, arith, IsTrue, None}
+use Rattle.std.specs.List.{Contains}
 use Rattle.game_rules.specs.declared.RuleParts.{RuleParts}
 use Rattle.game_rules.specs.declared.Place.{Place}
 use Rattle.game_rules.specs.declared.Move.{Move}
@@ -15,7 +15,6 @@ use Rattle.safe_moves.specs.Safe.{first_safe}
 use Rattle.stock_steps.specs.Steps.{is_from_waste, is_from_elsewhere, other_carries, stock_steps_after, steps_from, most_stock_moves, free_steps, steps, waste_carries}
 use Rattle.stock_steps.specs.StockSteps.{HasWinningStep, Commute, IsReached}
 use Rattle.stock_steps.specs.declared.Step.{Step}
-use Rattle.game_rules.proofs.Limits.{both}
 use Rattle.stock_steps.proofs.Members.{Mem, Contains-from_Mem, Mem-left, Mem-right, Mem-filter}
 use Rattle.stock_steps.proofs.LegalListed.{legal_listed}
 use Rattle.game_rules.proofs.StockMoves.{stock_move_cases, after_stock_moves-suc}

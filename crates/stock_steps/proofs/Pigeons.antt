@@ -1,8 +1,6 @@
 -- Where redeals are unlimited, a run of stock moves with no board twice has at most as many moves as stock and waste have cards.
-use Rattle.std.proofs.Common.{◌≡◌, ◌≢◌, ◌⊎◌, inl, inr, ℕ, zero, suc, ◌+◌, ◌-◌, ◌<◌, ◌≤◌, List, length, reverse, refl, ap, sym, ◌∙◌, arith, IsTrue, ◌==◌, if◌then◌else◌}
+use Rattle.std.proofs.Common.{◌≡◌, ◌≢◌, ◌⊎◌, inl, inr, ℕ, zero, suc, ◌+◌, ◌-◌, ◌<◌, ◌≤◌, length, refl, ap, sym, ◌∙◌, arith, IsTrue, ◌==◌, if◌then◌else◌}
 use Rattle.std.proofs.lemmas.Bool.Decides.{nat_tests}
-use Rattle.std.proofs.lemmas.List.{reverse-reverse}
-use Rattle.card_piles.specs.declared.Card.{Card}
 use Rattle.game_rules.specs.declared.RuleParts.{RuleParts}
 use Rattle.game_rules.specs.Rules.{deals_to_waste, is_unlimited}
 use Rattle.game_rules.specs.Conflicts.{IsPlayable, HasLimits}
@@ -12,7 +10,6 @@ use Rattle.game_rules.specs.StockMoves.{IsNextByStock}
 use Rattle.stock_steps.specs.StockSteps.{IsStockRun, StockStep}
 use Rattle.stock_steps.specs.declared.Step.{Step}
 use Rattle.game_rules.proofs.Limits.{limits_of}
-use Rattle.game_rules.proofs.StockMoves.{with_stock}
 use Rattle.stock_steps.proofs.StockKin.{Kin, Kin-refl, Kin-trans, size, next_cases, next_kin, kin_size, dealt_redeals, same_length}
 
 abbrev moved_hole : (f : ℕ → ℕ) (top last : ℕ) → ℕ → ℕ

@@ -1,14 +1,13 @@
 -- When a board of a run of stock moves comes again, by the lengths of stocks alone.
-use Rattle.std.proofs.Common.{◌≡◌, ◌⊎◌, ◌↔◌, inl, inr, ℕ, zero, suc, ◌+◌, ◌-◌, ◌<◌, ◌≤◌, false, List, [], length, ap, sym, ◌∙◌, subst, arith, IsTrue, length-take}
-use Rattle.std.proofs.lemmas.List.{nil_from_length, length-reverse}
+use Rattle.std.proofs.Common.{◌≡◌, ◌⊎◌, ◌↔◌, inl, inr, ℕ, zero, suc, ◌+◌, ◌-◌, ◌<◌, ◌≤◌, false, List, [], length, ap, sym, ◌∙◌, subst, arith, IsTrue}
+use Rattle.std.proofs.lemmas.List.{nil_from_length}
 use Rattle.card_piles.specs.declared.Card.{Card}
 use Rattle.game_rules.specs.declared.RuleParts.{RuleParts}
 use Rattle.game_rules.specs.Rules.{deals_to_waste, is_unlimited}
 use Rattle.game_rules.specs.Board.{Board}
 use Rattle.game_rules.specs.StockMoves.{IsNextByStock}
 use Rattle.stock_steps.specs.StockSteps.{IsStockRun, StandsBefore, ComesAgain}
-use Rattle.game_rules.proofs.StockMoves.{Dealt}
-use Rattle.stock_steps.proofs.StockKin.{Kin-trans, Redealt, size, next_cases, next_kin, kin_size, same_length}
+use Rattle.stock_steps.proofs.StockKin.{Kin-trans, size, next_cases, next_kin, kin_size, same_length, dealt_length, redealt_length}
 use Rattle.stock_steps.proofs.StockRuns.{weight, next_is_lighter}
 use Rattle.stock_steps.proofs.Pigeons.{Alike, run_alike, unlimited_left}
 
@@ -42,14 +41,6 @@ never_again rules board next k boards counted draws to_waste run is_next at =
     omega arith
 
 -- where they are unlimited, with the length of the first stock, or with an empty stock after another
-
-dealt_length : (rules : RuleParts) (a b : Board) → Dealt rules a b → length b.stock ≡ length a.stock - rules.draw
-dealt_length rules a b h =
-    omega (arith, ap (λ (x : Board). length x.stock) h.is_after, length-take (length a.stock - rules.draw) a.stock)
-
-redealt_length : (rules : RuleParts) (a b : Board) → Redealt rules a b → (length a.stock ≡ 0) × (length b.stock ≡ length a.waste)
-redealt_length rules a b h =
-    (ap length h.none, ap (λ (x : Board). length x.stock) h.is_after ∙ length-reverse a.waste)
 
 one_before : (rules : RuleParts) (a b c d : Board) → 1 ≤ rules.draw → IsTrue (deals_to_waste rules.target) → Alike a c
     → IsNextByStock rules a b → IsNextByStock rules c d → b ≡ d → 0 < length b.stock → a ≡ c

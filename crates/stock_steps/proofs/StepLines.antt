@@ -1,7 +1,7 @@
 -- Each step of the list is a line of its single moves, and how many stock moves a step has.
-use Rattle.std.proofs.Common.{◌≡◌, inl, inr, ℕ, zero, suc, ◌+◌, ◌*◌, ◌<◌, ◌≤◌, Bool, true, false, ◌&&◌, not, List, [], ◌∷◌, ◌++◌, length, refl, sym, subst, arith, IsTrue, Option, Some, None, mul-le-mul}
+use Rattle.std.proofs.Common.{◌≡◌, inl, inr, ℕ, zero, suc, ◌+◌, ◌*◌, ◌<◌, ◌≤◌, Bool, true, false, List, [], ◌∷◌, ◌++◌, length, refl, sym, subst, arith, IsTrue, Option, Some, None, mul-le-mul}
 use Rattle.std.proofs.lemmas.Bool.Decides.{nat_tests}
-use Rattle.std.specs.List.{Contains, filter, list_any}
+use Rattle.std.specs.List.{Contains, filter}
 use Rattle.std.specs.Option.{option_to_list}
 use Rattle.game_rules.specs.declared.RuleParts.{RuleParts}
 use Rattle.game_rules.specs.declared.Move.{Move}
@@ -14,9 +14,9 @@ use Rattle.game_rules.specs.Board.{Board}
 use Rattle.game_rules.specs.Play.{Legal, after}
 use Rattle.game_rules.specs.Winning.{Line}
 use Rattle.game_rules.specs.Order.{legal_moves}
-use Rattle.game_rules.specs.StockMoves.{is_carry, stock_move, IsNextByStock, after_stock_move, after_stock_moves}
+use Rattle.game_rules.specs.StockMoves.{stock_move, IsNextByStock, after_stock_move, after_stock_moves}
 use Rattle.safe_moves.specs.Safe.{first_safe, is_safe}
-use Rattle.stock_steps.specs.Steps.{is_from_waste, is_from_elsewhere, other_carries, forced_or, stock_steps_after, steps_from, most_stock_moves, free_steps, steps, CanBeMade, stock_moves, stock_steps, expand, after_step}
+use Rattle.stock_steps.specs.Steps.{is_from_waste, is_from_elsewhere, other_carries, forced_or, stock_steps_after, steps_from, most_stock_moves, free_steps, steps, CanBeMade, stock_moves, expand, after_step}
 use Rattle.stock_steps.specs.StockSteps.{IsStockRun, StockStep}
 use Rattle.stock_steps.specs.declared.Step.{Step}
 use Rattle.game_rules.proofs.Limits.{both, limits_of, numbers_within}

@@ -1,5 +1,5 @@
 -- What a stock move changes: the border between stock and waste, and the redeals left.
-use Rattle.std.proofs.Common.{◌≡◌, ◌⊎◌, inl, inr, ℕ, ◌+◌, ◌-◌, ◌<◌, ◌≤◌, ◌&&◌, ◌||◌, not, List, [], ◌∷◌, ◌++◌, length, reverse, take, drop, refl, ap, sym, ◌∙◌, subst, arith, IsTrue, Some, nat_lt, if◌then◌else◌, length-append, length-take, ◌==◌}
+use Rattle.std.proofs.Common.{◌≡◌, ◌⊎◌, inl, inr, ℕ, zero, suc, ◌+◌, ◌-◌, ◌<◌, ◌≤◌, ◌&&◌, ◌||◌, not, List, [], ◌∷◌, ◌++◌, length, reverse, take, drop, refl, ap, sym, ◌∙◌, subst, arith, IsTrue, Some, nat_lt, if◌then◌else◌, length-append, length-take, ◌==◌}
 use Rattle.std.proofs.lemmas.List.{reverse-reverse, length-reverse, take_at, drop_at}
 use Rattle.std.proofs.lemmas.Bool.Decides.{nat_tests}
 use Rattle.card_piles.specs.Cards.{number_of}
@@ -9,10 +9,10 @@ use Rattle.game_rules.specs.declared.Move.{Move}
 use Rattle.game_rules.specs.declared.Move.TheVariants.{Carry, Deal, Redeal}
 use Rattle.game_rules.specs.Rules.{deals_to_waste, is_unlimited}
 use Rattle.game_rules.specs.Board.{Board, top_part, below_top}
-use Rattle.game_rules.specs.Play.{Legal, is_empty, after, after_deal_to}
-use Rattle.game_rules.specs.StockMoves.{is_carry, IsNextByStock, stock_move, after_stock_move, queue}
+use Rattle.game_rules.specs.Play.{Legal, is_empty, after}
+use Rattle.game_rules.specs.StockMoves.{is_carry, IsNextByStock, stock_move, after_stock_move, after_stock_moves, queue}
 use Rattle.game_rules.proofs.Limits.{both}
-use Rattle.game_rules.proofs.StockMoves.{target-waste, with_stock, Dealt, redeal-empty, stock_move-exact, queue-after_stock_moves}
+use Rattle.game_rules.proofs.StockMoves.{target-waste, with_stock, Dealt, redeal-empty, stock_move-exact, stock_move_cases, queue-after_stock_moves}
 use Rattle.stock_steps.specs.Steps.{same_cards, same_stock}
 
 -- boards that differ in stock, waste and redeals alone, with one queue
@@ -99,6 +99,21 @@ next_kin rules a b to_waste h = record {
   queue = sym (ap queue (next_is rules a b to_waste h) ∙ queue-after_stock_moves rules 1 a to_waste);
 }
 
+-- stock moves lead to kin of the first board
+kin_step : (rules : RuleParts) (a : Board) → IsTrue (deals_to_waste rules.target) → Kin a (after_stock_move rules a)
+kin_step rules a to_waste = elim (stock_move_cases rules a to_waste) [
+  | inl none ↦
+      let same : after_stock_move rules a ≡ a = rw (none, after_stock_move) refl in
+      subst (λ (b : Board). Kin a b) (sym same) (Kin-refl a)
+  | inr next ↦ next_kin rules a (after_stock_move rules a) to_waste next.is_next
+]
+
+pub kin_after : (rules : RuleParts) (k : ℕ) (a : Board) → IsTrue (deals_to_waste rules.target) → Kin a (after_stock_moves rules k a)
+kin_after rules zero a to_waste = Kin-refl a
+kin_after rules (suc k) a to_waste =
+    Kin-trans a (after_stock_move rules a) (after_stock_moves rules k (after_stock_move rules a))
+    (kin_step rules a to_waste) (kin_after rules k (after_stock_move rules a) to_waste)
+
 -- lengths
 
 abbrev pub size : Board → ℕ
@@ -119,6 +134,14 @@ pub dealt_less : (rules : RuleParts) (a b : Board) → 1 ≤ rules.draw → Deal
 dealt_less rules a b draws h =
     let some : 0 < length a.stock = h.some in
     omega (arith, ap (λ (x : Board). length x.stock) h.is_after, length-take (length a.stock - rules.draw) a.stock)
+
+pub dealt_length : (rules : RuleParts) (a b : Board) → Dealt rules a b → length b.stock ≡ length a.stock - rules.draw
+dealt_length rules a b h =
+    omega (arith, ap (λ (x : Board). length x.stock) h.is_after, length-take (length a.stock - rules.draw) a.stock)
+
+pub redealt_length : (rules : RuleParts) (a b : Board) → Redealt rules a b → (length a.stock ≡ 0) × (length b.stock ≡ length a.waste)
+redealt_length rules a b h =
+    (ap length h.none, ap (λ (x : Board). length x.stock) h.is_after ∙ length-reverse a.waste)
 
 pub dealt_redeals : (rules : RuleParts) (a b : Board) → Dealt rules a b → b.redeals_left ≡ a.redeals_left
 dealt_redeals rules a b h = ap (λ (x : Board). x.redeals_left) h.is_after

@@ -1,6 +1,5 @@
 -- The laws on stock moves and on the steps of a search, from playable rules and boards that belong to them.
-use Rattle.std.proofs.Common.{◌≡◌, ◌↔◌, ℕ, ◌+◌, Bool, true, false, ◌&&◌, not, refl, sym, IsTrue, length, [], Option, Some, None}
-use Rattle.std.specs.List.{Contains}
+use Rattle.std.proofs.Common.{◌≡◌, ℕ, ◌+◌, Bool, true, false, not, refl, IsTrue, length, [], Option, Some, None}
 use Rattle.game_rules.specs.declared.RuleParts.{RuleParts}
 use Rattle.game_rules.specs.declared.Move.{Move}
 use Rattle.game_rules.specs.declared.Move.TheVariants.{Carry, Deal, Redeal}
@@ -17,7 +16,7 @@ use Rattle.safe_moves.specs.Safe.{first_safe, is_safe}
 use Rattle.safe_moves.proofs.FirstSafe.{find-passes}
 use Rattle.safe_moves.proofs.SafeExchange.{exchange}
 use Rattle.stock_steps.specs.declared.Step.{Step}
-use Rattle.stock_steps.specs.Steps.{CanBeMade, after_step, expand, forced_or, free_steps, is_from_elsewhere, is_from_waste, steps}
+use Rattle.stock_steps.specs.Steps.{CanBeMade, after_step, expand, is_from_elsewhere, is_from_waste}
 use Rattle.stock_steps.specs.StockSteps.{Commute, HasWinningStep}
 use Rattle.stock_steps.proofs.StockCommutes.{carry_first}
 use Rattle.stock_steps.proofs.StepLines.{playable_draw, step_line}

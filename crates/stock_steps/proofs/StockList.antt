@@ -61,6 +61,15 @@ pub stock_along : (rules : RuleParts) (board : Board) → 1 ≤ rules.draw → I
 stock_along rules board draws to_waste =
     along rules (most_stock_moves board) 0 [] board to_waste (λ b none. absurd none) (λ b none. absurd none) (stock_moves-end rules board draws to_waste)
 
+-- the list goes along the run
+pub stock_steps-listed : (rules : RuleParts) (board : Board) → IsTrue (deals_to_waste rules.target)
+    → (found : Along rules (most_stock_moves board) 0 [] board)
+    → stock_steps rules board ≡ flat_map (λ k. steps_from k (waste_carries rules (after_stock_moves rules k board))) (range_with_len 0 (suc found.last))
+stock_steps-listed rules board to_waste found =
+    rw to_waste found.is_list
+    ∙ along_flat rules found.last 0 board (λ i. after_stock_moves rules i board)
+    (λ i. let e : 0 + i ≡ i = omega arith in ap (λ (n : ℕ). after_stock_moves rules n board) e)
+
 pub stock_steps-along : (rules : RuleParts) (board : Board) → 1 ≤ rules.draw → IsTrue (deals_to_waste rules.target)
     → IsAlongRun rules board (stock_steps rules board)
 stock_steps-along rules board draws to_waste =
@@ -69,9 +78,7 @@ stock_steps-along rules board draws to_waste =
       last = found.last;
       boards = λ i. after_stock_moves rules i board;
       whole = whole_run rules board found;
-      is_list = rw to_waste found.is_list
-          ∙ along_flat rules found.last 0 board (λ i. after_stock_moves rules i board)
-          (λ i. let e : 0 + i ≡ i = omega arith in ap (λ (n : ℕ). after_stock_moves rules n board) e);
+      is_list = stock_steps-listed rules board to_waste found;
     }
 
 -- the list's elements
@@ -165,6 +172,24 @@ run_within rules board k boards to_waste found run =
                 let before : boards at.0 ≡ after_stock_moves rules at.0 board = run_boards rules board k boards to_waste run at.0 (omega (arith, at.1)) in
                 absurd (run.apart at.0 (suc last) (omega (arith, at.1)) longer (before ∙ at.2))
           ]
+    ]
+
+-- and a whole run is as long as it
+pub stock_steps-by_run : (rules : RuleParts) (board : Board) (k : ℕ) → 1 ≤ rules.draw → IsTrue (deals_to_waste rules.target)
+    → IsWholeRun rules board k (λ i. after_stock_moves rules i board)
+    → stock_steps rules board ≡ flat_map (λ i. steps_from i (waste_carries rules (after_stock_moves rules i board))) (range_with_len 0 (suc k))
+stock_steps-by_run rules board k draws to_waste whole =
+    let found : Along rules (most_stock_moves board) 0 [] board = stock_along rules board draws to_waste in
+    let within : k ≤ found.last = run_within rules board k (λ i. after_stock_moves rules i board) to_waste found whole.run in
+    let cases : (found.last ≡ k) ⊎ (k < found.last) = grind (arith, within) in
+    elim cases [
+      | inl e ↦
+          stock_steps-listed rules board to_waste found
+          ∙ ap (λ (n : ℕ). flat_map (λ i. steps_from i (waste_carries rules (after_stock_moves rules i board))) (range_with_len 0 (suc n))) e
+      | inr less ↦
+          let at : (i : ℕ) × (i ≤ k) × (after_stock_moves rules i board ≡ after_stock_moves rules (suc k) board) =
+          whole.closed (after_stock_moves rules (suc k) board) (found.next k less) in
+          absurd (found.apart at.0 (suc k) (omega (arith, at.1)) less at.2)
     ]
 
 step_is_listed : (rules : RuleParts) (board : Board) (step : Step) → StockStep rules board step
