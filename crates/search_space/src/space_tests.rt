@@ -1,109 +1,41 @@
-//! A space over small boards: its moves in their order, the way back, and searches of it.
-ghost use Rattle.std.specs.Prelude.{IfOk};
-ghost use Rattle.game_rules.specs.Belonging.{Belongs};
+//! A space over small boards: its steps in their order, the way back, and a search of it.
 
 use crate::PlainSpace;
-use card_piles::{Build, Card, card_of};
 use dfs_core::{Found, Space, search};
-use game_model::{
-    Board, BoardParts, Face, Goal, Groups, Items, Layout, Redeals, RuleParts, Rules, Spaces, Target,
-};
-use game_rules::{Move, Place};
 use node_budget::Budget;
+use small_games::{board_of, move_of, rules_of};
 use std::alloc::Global;
 use std::test::Fail;
+use stock_moves::Step;
 use transposition::{LruMemo, NoMemory};
 
-/// Aces and twos on two piles and in one cell, with foundations for the four suits.
-fn aces_and_twos() -> Result<Rules, Fail> {
-    let rules = Rules::new(RuleParts {
-        decks: 1,
-        max_rank: 2,
-        piles: 2,
-        layout: Layout::Even,
-        face: Face::AllUp,
-        build: Build::RedBlack,
-        wrap: false,
-        groups: Groups::One,
-        group_build: Build::NoBuild,
-        spaces: Spaces::Any,
-        goal: Goal::Foundations {
-            base: 1,
-            started: false,
-            take_back: false,
-            complete_runs: false,
-        },
-        cells: 1,
-        cells_filled: 0,
-        reserve: 0,
-        stacked: false,
-        stock: 0,
-        target: Target::ToWaste,
-        draw: 1,
-        redeals: Redeals::Times(0),
-    })?;
-    Ok(rules)
-}
+/// Aces and twos on two piles, in one cell and in a stock that deals one card to the waste, with one
+/// redeal.
+const RULES: &str = "ranks 2 piles 2 cells 1 reserve 0 stock 2 redeals 1 red-black";
 
-/// The cards of a text such as `AC 2D`.
-fn cards(alloc: Global, text: &str) -> Result<Items<Card>, Fail> {
-    let mut cards = Items::new(alloc);
-    for word in text.split_whitespace() {
-        if let Some(card) = card_of(word.as_bytes()) {
-            cards.push(card)?;
-        }
+/// The steps of a text: the number of stock moves and the last move of each.
+fn steps_of(alloc: Global, text: &str) -> Result<Vec<Step>, Fail> {
+    let mut steps = Vec::new(alloc);
+    for part in text.split(", ") {
+        let (deals, last) = part.split_once(' ').ok_or("a step")?;
+        steps.push(Step {
+            deals: deals.parse::<u16>()?,
+            last: move_of(last),
+        })?;
     }
-    Ok(cards)
-}
-
-/// The board of two piles and of the heights of the foundations.
-fn board(alloc: Global, rules: &Rules, piles: [&str; 2], heights: [u8; 4]) -> Result<Board, Fail>
-    ensures { IfOk result (λ board. Belongs rules.now board) }
-{
-    let mut tableau = Items::new(alloc);
-    for pile in piles {
-        tableau.push(cards(alloc, pile)?)?;
-    }
-    let mut foundations = Items::new(alloc);
-    for height in heights {
-        foundations.push(height)?;
-    }
-    let board = Board::new(
-        alloc,
-        rules,
-        BoardParts {
-            tableau,
-            face_down: Items::new(alloc),
-            cells: Items::new(alloc),
-            reserve: Items::new(alloc),
-            stock: Items::new(alloc),
-            waste: Items::new(alloc),
-            redeals_left: 0,
-            foundations,
-            hole: Items::new(alloc),
-            rows: Items::new(alloc),
-        },
-    )?;
-    Ok(board)
-}
-
-fn carry(from: Place, to: Place) -> Move {
-    Move::Carry { from, to, count: 1 }
+    Ok(steps)
 }
 
 #[test]
-fn steps_are_the_legal_moves_in_order(rt: HostRuntime) -> Result<(), Fail> {
+fn carries_from_elsewhere_stand_before_the_stock_steps(rt: HostRuntime) -> Result<(), Fail> {
     let alloc = rt.alloc();
-    let rules = aces_and_twos()?;
-    let start = board(alloc, &rules, ["AD 2C", "AC 2D"], [0, 0, 2, 2])?;
+    let rules = rules_of(RULES)?;
+    let start = board_of(alloc, &rules, "pile 2H pile 2C stock AC AH left 1 home 0 2 0 2")?;
     let mut space = PlainSpace::new(&rules, &start);
     let mut steps = Vec::new(alloc);
     space.steps(alloc, &mut steps)?;
-    let moves = [
-        carry(Place::Tableau(0), Place::Cell(0)),
-        carry(Place::Tableau(1), Place::Cell(0)),
-    ];
-    assert!(rt; steps.as_slice() == moves.as_slice());
+    let want = "0 t0 c0, 0 t1 c0, 1 w f2, 1 w t1, 1 w c0, 2 w f0, 2 w t0, 2 w c0, 4 w f2, 4 w t1, 4 w c0, 5 w f0, 5 w t0, 5 w c0";
+    assert!(rt; steps.as_slice() == steps_of(alloc, want)?.as_slice());
     assert!(rt; !space.is_won());
     Ok(())
 }
@@ -111,12 +43,12 @@ fn steps_are_the_legal_moves_in_order(rt: HostRuntime) -> Result<(), Fail> {
 #[test]
 fn a_safe_move_is_the_one_step(rt: HostRuntime) -> Result<(), Fail> {
     let alloc = rt.alloc();
-    let rules = aces_and_twos()?;
-    let start = board(alloc, &rules, ["2C AD", "AC 2D"], [0, 0, 2, 2])?;
+    let rules = rules_of(RULES)?;
+    let start = board_of(alloc, &rules, "pile 2C AD pile AC 2D home 0 0 2 2")?;
     let mut space = PlainSpace::new(&rules, &start);
     let mut steps = Vec::new(alloc);
     space.steps(alloc, &mut steps)?;
-    assert!(rt; steps.as_slice() == [carry(Place::Tableau(0), Place::Foundation(1))].as_slice());
+    assert!(rt; steps.as_slice() == steps_of(alloc, "0 t0 f1")?.as_slice());
     Ok(())
 }
 
@@ -137,50 +69,27 @@ fn comes_back(alloc: Global, space: &mut PlainSpace, place: usize) -> Result<boo
 #[test]
 fn each_step_leads_to_another_key_and_back(rt: HostRuntime) -> Result<(), Fail> {
     let alloc = rt.alloc();
-    let rules = aces_and_twos()?;
-    let start = board(alloc, &rules, ["AD 2C", "AC 2D"], [0, 0, 2, 2])?;
+    let rules = rules_of(RULES)?;
+    let start = board_of(alloc, &rules, "pile 2H pile 2C stock AC AH left 1 home 0 2 0 2")?;
     let mut space = PlainSpace::new(&rules, &start);
-    for place in 0..2 {
+    for place in 0..14 {
         assert!(rt; comes_back(alloc, &mut space, place)?);
     }
-    assert!(rt; !comes_back(alloc, &mut space, 2)?);
+    assert!(rt; !comes_back(alloc, &mut space, 14)?);
     Ok(())
 }
 
 #[test]
-fn a_search_finds_a_win(rt: HostRuntime) -> Result<(), Fail> {
+fn a_search_finds_a_win_over_a_redeal(rt: HostRuntime) -> Result<(), Fail> {
     let alloc = rt.alloc();
-    let rules = aces_and_twos()?;
-    let start = board(alloc, &rules, ["2C AD", "AC 2D"], [0, 0, 2, 2])?;
+    let rules = rules_of("ranks 3 piles 0 cells 0 reserve 0 stock 3 redeals 1")?;
+    let start = board_of(alloc, &rules, "stock AC 3C 2C left 1 home 0 3 3 3")?;
     let mut space = PlainSpace::new(&rules, &start);
     let mut budget = Budget::new(100);
     let memo = LruMemo::new(alloc, 100)?;
     let found = search(alloc, &mut space, memo, &mut budget)?;
-    let moves = [
-        carry(Place::Tableau(0), Place::Foundation(1)),
-        carry(Place::Tableau(1), Place::Foundation(1)),
-        carry(Place::Tableau(1), Place::Foundation(0)),
-        carry(Place::Tableau(0), Place::Foundation(0)),
-    ];
-    assert!(rt; matches!(&found, Found::Won(trail) if trail.items() == moves.as_slice()));
-    assert_eq!(rt; budget.spent(), 4);
-    Ok(())
-}
-
-#[test]
-fn a_search_among_five_boards_is_exhausted(rt: HostRuntime) -> Result<(), Fail> {
-    let alloc = rt.alloc();
-    let rules = aces_and_twos()?;
-    let start = board(alloc, &rules, ["AD AC AH 2H 2D 2C", ""], [0, 0, 0, 2])?;
-    for (limit, spent, exhausted) in [(5, 5, true), (4, 4, false)] {
-        let mut space = PlainSpace::new(&rules, &start);
-        let mut budget = Budget::new(limit);
-        let memo = LruMemo::new(alloc, 100)?;
-        let found = search(alloc, &mut space, memo, &mut budget)?;
-        assert_eq!(rt; matches!(&found, Found::Exhausted), exhausted);
-        assert_eq!(rt; matches!(&found, Found::SpentAll), !exhausted);
-        assert_eq!(rt; budget.spent(), spent);
-        assert!(rt; !space.is_won());
-    }
+    let steps = steps_of(alloc, "3 w f0, 2 w f0, 1 w f0")?;
+    assert!(rt; matches!(&found, Found::Won(trail) if trail.items() == steps.as_slice()));
+    assert_eq!(rt; budget.spent(), 3);
     Ok(())
 }
