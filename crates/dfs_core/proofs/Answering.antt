@@ -1,7 +1,6 @@
 -- What a search answers when it ends.
 use Rattle.std.proofs.Common.{◌≡◌, ℕ, ◌+◌, Bool, subst, List, length}
-use Rattle.trails.specs.Fresh.{IsFresh}
-use Rattle.dfs_core.specs.Search.{game}
+use Rattle.dfs_core.specs.Search.{game, IsFreshIn}
 use Rattle.dfs_core.specs.Standing.{problem_from, IsSearch, IsNew, IsWin, IsOver, HasMet}
 use Rattle.dfs_core.specs.Laid.{Values, Shows}
 use Rattle.dfs_core.specs.Answer.{EndsWith, IsAnswer}
@@ -47,7 +46,7 @@ module _ {S State Step Key Undo : Type 0} {space : Ghosts S Key Step Undo State}
   answered h capacity_is count ends = record {
     walk = walk;
     is_walk = h.is.underway.is_walk;
-    fresh = subst (λ k. IsFresh (game (problem_from space eq first)) k (space.state first) walk) capacity_is
+    fresh = subst (λ k. IsFreshIn (problem_from space eq first) k walk) capacity_is
         h.is.kept.fresh;
     count = count;
     ends = ends;

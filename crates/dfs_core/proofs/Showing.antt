@@ -1,17 +1,14 @@
 -- What the values of a call show, before and after it.
-use Rattle.std.proofs.Common.{◌≡◌, ◌≢◌, ℕ, ◌+◌, ◌<◌, ◌≤◌, Bool, true, false, Some, refl, ap, sym, ◌∙◌, subst, List}
-use Rattle.std.proofs.Common.{[], ◌∷◌, ◌++◌, length, append-nil, Contains, AllPairs, get_or, take, IsSome}
+use Rattle.std.proofs.Common.{◌≡◌, ◌≢◌, ◌+◌, ◌<◌, ◌≤◌, Bool, true, false, Some, refl, ap, sym, ◌∙◌, subst, List, []}
+use Rattle.std.proofs.Common.{◌∷◌, ◌++◌, length, append-nil, Contains, AllPairs, get_or, take, IsSome}
 use Rattle.std.specs.Cmp.{IsEquivalence}
-use Rattle.trails.specs.Trails.{IsTrail, IsClean}
-use Rattle.trails.specs.Walks.{Follows, IsWalk}
-use Rattle.trails.specs.Fresh.{IsFresh}
+use Rattle.trails.specs.Trails.{IsTrail}
 use Rattle.transposition.specs.Memo.{IsAbsent, IsKnownAs, IsLookedAt, LeavesLast}
 use Rattle.transposition.specs.declared.memo.Known.{Known}
 use Rattle.transposition.specs.declared.memo.Known.TheVariants.{New}
-use Rattle.dfs_core.specs.Search.{Line, Memory, Search, path_of, IsNext, game, end_at}
-use Rattle.dfs_core.specs.Standing.{IsStepped, LeadsTo, IsMade, problem_from, IsSearch, IsNew, IsWin, IsOver}
-use Rattle.dfs_core.specs.Standing.{IsExpanded}
-use Rattle.dfs_core.specs.Laid.{StackView, Values, steps_of, IsLaid, Descends, Shows, LeadsBack}
+use Rattle.dfs_core.specs.Search.{Line, Memory, path_of, IsNext, game, end_at, IsCleanIn, FollowsIn, IsFreshIn}
+use Rattle.dfs_core.specs.Standing.{IsStepped, IsMade, problem_from, IsSearch, IsNew, IsWin, IsOver, IsExpanded}
+use Rattle.dfs_core.specs.Laid.{StackView, Values, steps_of, Descends, Shows, LeadsBack}
 use Rattle.dfs_core.specs.declared.space.Space.{Ghosts}
 use Rattle.dfs_core.specs.declared.stack.Level.{Level}
 use Rattle.dfs_core.specs.declared.stack.Frame.{Frame}
@@ -60,11 +57,7 @@ module _ {S State Step Key Undo : Type 0} {space : Ghosts S Key Step Undo State}
       shown_over none le = record {
         line = h.line;
         laid = h.laid;
-        is = record {
-          before = h.is;
-          at_start = laid_none h.laid none;
-          all_tried = laid_done h.laid le;
-        };
+        is = record { before = h.is; at_start = laid_none h.laid none; all_tried = laid_done h.laid le };
       }
 
       -- the next step
@@ -149,16 +142,16 @@ module _ {S State Step Key Undo : Type 0} {space : Ghosts S Key Step Undo State}
         pub shown_back : IsSome (space.before f.undo now.space)
         shown_back =
             let r = laid_popped h.laid fs f e in
-            subst (λ u. IsSome (space.before u now.space)) (sym r.3)
-            (frame_back h.is r.0 r.1 r.2)
+            subst (λ u. IsSome (space.before u now.space)) (sym r.undo_is)
+            (frame_back h.is r.below r.frame r.frames_is)
 
         pub shown_leads_left : (space' : S) → space.before f.undo now.space ≡ Some space'
             → LeadsBack space fs space' first
         shown_leads_left space' back =
             let r = laid_popped h.laid fs f e in
-            laid_back r.4 space.before space'
-            ∙ leads_back space eq r.0 first space' (leads_left h.is r.0 r.1 r.2 space'
-            (subst (λ u. space.before u now.space ≡ Some space') r.3 back))
+            laid_back r.laid_below space.before space'
+            ∙ leads_back space eq r.below first space' (leads_left h.is r.below r.frame r.frames_is space'
+            (subst (λ u. space.before u now.space ≡ Some space') r.undo_is back))
 
         pub shown_left : IsEquivalence eq → (space' : S) (memory' : Memory Key)
             → space.before f.undo now.space ≡ Some space' → length now.stack.steps ≤ now.stack.top.next
@@ -172,17 +165,17 @@ module _ {S State Step Key Undo : Type 0} {space : Ghosts S Key Step Undo State}
         shown_left laws space' memory' back le leaves capacity' =
             let r = laid_popped h.laid fs f e in
             record {
-              line = record { frames = r.0; top = r.1.level };
-              laid = r.4;
-              is = search_leaves h.is r.0 r.1 r.2 laws space' memory'
-                  (subst (λ u. space.before u now.space ≡ Some space') r.3 back)
+              line = record { frames = r.below; top = r.frame.level };
+              laid = r.laid_below;
+              is = search_leaves h.is r.below r.frame r.frames_is laws space' memory'
+                  (subst (λ u. space.before u now.space ≡ Some space') r.undo_is back)
                   (laid_done h.laid le) leaves capacity';
             }
 
     -- the won trail
     pub shown_win_ends : (step : Step) → Shows (IsWin space eq step) first walk now → (z : List Step)
         → z ≡ steps_of now.stack.frames ++ step ∷ []
-        → Follows (game (problem_from space eq first)) (space.state first) walk z
+        → FollowsIn (problem_from space eq first) walk z
         × IsTrail (game (problem_from space eq first)) (space.state first) z
         × ((space.play first).won (end_at (problem_from space eq first) z) ≡ true)
     shown_win_ends step h z z_is = search_wins step h.is z
@@ -195,18 +188,18 @@ module _ {S State Step Key Undo : Type 0} {space : Ghosts S Key Step Undo State}
       same_path = ap (λ l. l ++ new.step ∷ []) (laid_path h.laid)
 
       -- the next trail is clean and follows the walk
-      pub new_trail : IsClean (game (problem_from space eq first)) (space.state first)
+      pub new_trail : IsCleanIn (problem_from space eq first)
           (steps_of now.stack.frames ++ new.step ∷ [])
-          × Follows (game (problem_from space eq first)) (space.state first) walk
+          × FollowsIn (problem_from space eq first) walk
           (steps_of now.stack.frames ++ new.step ∷ [])
-      new_trail = subst (λ z. IsClean (game (problem_from space eq first)) (space.state first) z
-          × Follows (game (problem_from space eq first)) (space.state first) walk z) (sym same_path)
+      new_trail = subst (λ z. IsCleanIn (problem_from space eq first) z
+          × FollowsIn (problem_from space eq first) walk z) (sym same_path)
           (new_follows h.is.before laws h.is.made h.is.not_live h.is.not_finished)
 
       -- the walk with the next trail is fresh
-      pub new_trail_fresh : IsFresh (game (problem_from space eq first)) now.memory.capacity (space.state first)
+      pub new_trail_fresh : IsFreshIn (problem_from space eq first) now.memory.capacity
           (walk ++ (steps_of now.stack.frames ++ new.step ∷ []) ∷ [])
-      new_trail_fresh = subst (λ z. IsFresh (game (problem_from space eq first)) now.memory.capacity (space.state first)
+      new_trail_fresh = subst (λ z. IsFreshIn (problem_from space eq first) now.memory.capacity
           (walk ++ z ∷ [])) (sym same_path)
           (new_fresh h.is.before laws h.is.made h.is.not_live h.is.not_finished)
 

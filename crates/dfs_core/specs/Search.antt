@@ -1,8 +1,9 @@
 -- The state of a search, and what it is made of.
 use Rattle.std.specs.Prelude.{◌≡◌, ℕ, ◌+◌, ◌<◌, Bool, true, List, length, map, slice_index_or}
 use Rattle.trails.specs.Game.{Game}
-use Rattle.trails.specs.Trails.{end}
-use Rattle.trails.specs.Walks.{IsSettled}
+use Rattle.trails.specs.Trails.{end, states, IsClean}
+use Rattle.trails.specs.Walks.{IsSettled, Follows, IsWalk}
+use Rattle.trails.specs.Fresh.{IsFresh}
 use Rattle.dfs_core.specs.Play.{Play, game_of}
 
 -- what a search is about: what is played, which keys are equal, and the start
@@ -60,8 +61,10 @@ pub record IsNext {T : Type 0} (level : LevelView T) (step : T) : Type 0 where
   pub here : slice_index_or level.items level.tried step ≡ step
 
 -- a step of a level that was tried
-abbrev pub IsTried : {T : Type 0} → LevelView T → T → Type 0
-IsTried level step = (k : ℕ) × (k < level.tried) × (slice_index_or level.items k step ≡ step)
+pub record IsTried {T : Type 0} (level : LevelView T) (step : T) : Type 0 where
+  pub place : ℕ
+  pub early : place < level.tried
+  pub here : slice_index_or level.items place step ≡ step
 
 -- the level after one more step was tried
 abbrev pub tried_more : {T : Type 0} → LevelView T → LevelView T
@@ -88,5 +91,25 @@ module _ {State Step Key : Type 0} (problem : Problem State Step Key) where
   abbrev pub SameEnd : List Step → List Step → Type 0
   SameEnd l m = problem.eq (key_at l) (key_at m) ≡ true
 
+  -- the states of a path, and their keys
+  abbrev pub states_at : List Step → List State
+  states_at l = states game problem.start l
+
+  abbrev pub keys_at : List Step → List Key
+  keys_at l = map problem.play.key (states_at l)
+
+  -- the words for walks, of this problem
   abbrev pub IsSettledIn : List (List Step) → State → Type 0
   IsSettledIn walk s = IsSettled game problem.start walk s
+
+  abbrev pub IsCleanIn : List Step → Type 0
+  IsCleanIn z = IsClean game problem.start z
+
+  abbrev pub FollowsIn : List (List Step) → List Step → Type 0
+  FollowsIn walk z = Follows game problem.start walk z
+
+  abbrev pub IsWalkIn : List (List Step) → Type 0
+  IsWalkIn walk = IsWalk game problem.start walk
+
+  abbrev pub IsFreshIn : ℕ → List (List Step) → Type 0
+  IsFreshIn capacity walk = IsFresh game capacity problem.start walk

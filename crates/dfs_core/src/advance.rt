@@ -34,7 +34,8 @@ fn try_step<S: Space, M: Memo<S::Key>>(
     stack: &mut Stack<S::Step, S::Undo>,
 ) -> Option<Met<S::Step, S::Undo, S::Key>>
     requires untried { stack.old.top.next < length stack.old.steps.items }
-    requires searching { ShowsSome (IsSearch S.Space S.Key.eq) (values M.Memo space.old stack.old memo.old) }
+    requires searching { ShowsSome (IsSearch S.Space S.Key.eq)
+        (values M.Memo space.old stack.old memo.old) }
     ensures capacity { M.capacity memo.new ≡ M.capacity memo.old }
     ensures frames { stack.new.frames.items ≡ stack.old.frames.items }
     ensures items { stack.new.steps.items ≡ stack.old.steps.items }

@@ -31,8 +31,8 @@ pub fn search<S: Space, M: Memo<S::Key> + Drop>(
     ensures limit { budget.new.limit ≡ budget.old.limit }
 
     // The answer ends a walk of as many trails as were spent.
-    ensures answer { IfOk result (IsAnswer (game_of (S.play space.old) S.Key.eq) (S.state space.old) (M.capacity memo)
-        budget.old.spent budget.new.spent budget.new.limit) }
+    ensures answer { IfOk result (IsAnswer (game_of (S.play space.old) S.Key.eq) (S.state space.old)
+        (M.capacity memo) budget.old.spent budget.new.spent budget.new.limit) }
 
     // In a complete space no win exists where the search is exhausted.
     ensures no_win { IfOk result (λ found. found ≡ Found.Exhausted

@@ -57,7 +57,8 @@ pub(crate) fn step_on<S: Space, M: Memo<S::Key>>(
     ensures capacity { M.capacity memo.new ≡ M.capacity memo.old }
     ensures limit { budget.new.limit ≡ budget.old.limit }
     ensures spent { IfOk result (IsSpent budget.old.spent budget.new.spent budget.new.limit) }
-    ensures expands { IfOk result (λ expanded. OnTrue expanded (Expands S.Space S.Key.eq met
+    ensures expands { IfOk result (λ expanded. OnTrue expanded
+        (Expands S.Space S.Key.eq met
         (values M.Memo space.old stack.old memo.old) (values M.Memo space.new stack.new memo.new))) }
 {
     let NewState { step, undo, key } = met;

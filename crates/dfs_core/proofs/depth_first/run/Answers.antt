@@ -1,8 +1,6 @@
-use Rattle.std.proofs.Common.{◌≡◌, ℕ, ◌+◌, ◌-◌, ◌<◌, ◌≤◌, ◌∙◌, sym, ap, subst, [], ◌∷◌, ◌++◌, length-append, arith}
-use Rattle.std.proofs.Common.{Bool, true, false}
+use Rattle.std.proofs.Common.{◌≡◌, ℕ, ◌+◌, ◌≤◌, ◌∙◌, sym, ap, subst, [], ◌∷◌, ◌++◌, length-append, arith, Bool, true}
+use Rattle.std.proofs.Common.{false}
 use Rattle.std.specs.Bool.{OnTrue}
-use Rattle.trails.specs.Fresh.{IsFresh}
-use Rattle.dfs_core.specs.Search.{game}
 use Rattle.dfs_core.specs.Standing.{problem_from, IsSpent, IsSearch}
 use Rattle.dfs_core.specs.Laid.{Shows, values, steps_of}
 use Rattle.dfs_core.proofs.Moves.{clean_none, follows_none, walk_none}
@@ -11,6 +9,7 @@ use Rattle.dfs_core.proofs.Standings.{search_ends}
 use Rattle.dfs_core.proofs.Showing.{shown_started, shown_leads_back, shown_win_ends, new_trail, new_trail_fresh}
 use Rattle.dfs_core.proofs.Answering.{as_win, as_new, as_over, before_win, before_end, before_new, answered}
 use Rattle.dfs_core.proofs.depth_first.run.Goals as goal
+use Rattle.dfs_core.specs.Search.{IsFreshIn}
 
 spent_none : (old new limit : ℕ) (b : Bool) → b ≡ false → IsSpent old new limit b → (new ≡ old) × (new ≡ limit)
 spent_none old new limit true e h = cc
@@ -134,7 +133,7 @@ returns-then-not-branch-2-clause-answer g c =
       z,
       follows.0,
       follows.1,
-      subst (λ k. IsFresh (game about) k about.start (i.walk ++ z ∷ [])) capacity
+      subst (λ k. IsFreshIn about k (i.walk ++ z ∷ [])) capacity
           (new_trail_fresh g.met.S.Key.Eq.laws n),
     )
 

@@ -1,8 +1,7 @@
 use Rattle.std.proofs.Common.{◌≡◌, ◌∙◌, refl, sym, subst, [], arith, true, IsSome}
 use Rattle.std.proofs.lemmas.Result.{IfOk-weaker}
 use Rattle.trails.specs.Trails.{end, IsTrail}
-use Rattle.trails.specs.Walks.{Follows}
-use Rattle.dfs_core.specs.Search.{game}
+use Rattle.dfs_core.specs.Search.{game, FollowsIn}
 use Rattle.dfs_core.specs.Standing.{problem_from}
 use Rattle.dfs_core.specs.Answer.{EndsWith}
 use Rattle.dfs_core.proofs.Moves.{follows_none, walk_none}
@@ -19,7 +18,7 @@ returns-then-is_won-clause-answer g c =
       is_walk = walk_none about;
       fresh = fresh_none about (g.M.Memo.capacity c.args.memo);
       count = omega arith;
-      ends = subst (λ ts. Follows (game about) about.start [] ts × IsTrail (game about) about.start ts
+      ends = subst (λ ts. FollowsIn about [] ts × IsTrail (game about) about.start ts
           × (about.play.won (end (game about) about.start ts) ≡ true))
           (sym (c.from_vec.ensures ∙ c.new-steps.ensures.items))
           (follows_none about, tt, sym c.is_won.ensures ∙ c.if-is_won.true);
