@@ -229,9 +229,8 @@ module _ {S State Step Key Undo : Type 0} {space : Ghosts S Key Step Undo State}
 
         -- and the state is expanded
         pub shown_expanded : (steps' : List Step) (memory' : Memory Key)
-            → IsExpanded
-            ((space.play now.space).steps (space.state now.space)) new.key stack'.steps now.memory steps'
-            memory'
+            → IsExpanded ((space.play now.space).steps (space.state now.space)) new.key stack'.steps now.memory
+            steps' memory'
             → memory'.capacity ≡ now.memory.capacity
             → Shows (IsSearch space eq) first (walk ++ (steps_of now.stack.frames ++ new.step ∷ []) ∷ [])
             (record { space = now.space; stack = record stack' { steps = steps' }; memory = memory' })
