@@ -31,7 +31,8 @@ pub fn search<S: Space, M: Memo<S::Key> + Drop>(
     ensures limit { budget.new.limit ≡ budget.old.limit }
 
     // The answer ends a walk of as many trails as were spent.
-    ensures answer { IfOk result (IsAnswer (game_of (S.play space.old) S.Key.eq) (S.state space.old) (M.capacity memo) budget.old.spent budget.new.spent budget.new.limit) }
+    ensures answer { IfOk result (IsAnswer (game_of (S.play space.old) S.Key.eq) (S.state space.old)
+        (M.capacity memo) budget.old.spent budget.new.spent budget.new.limit) }
 
     // In a complete space no win exists where the search is exhausted.
     ensures no_win { IfOk result (λ found. found ≡ Found.Exhausted
@@ -67,9 +68,10 @@ fn run<S: Space, M: Memo<S::Key>>(
     requires none_tried { stack.old.top.next ≡ 0 }
     requires not_live { M.live memo.old ≡ [] }
     requires not_finished { M.finished memo.old ≡ [] }
-    ensures leads { LeadsBack S.before stack.new.frames.items space.new space.old }
+    ensures leads { LeadsBack S.Space stack.new.frames.items space.new space.old }
     ensures limit { budget.new.limit ≡ budget.old.limit }
-    ensures answer { IfOk result (IsAnswer (game_of (S.play space.old) S.Key.eq) (S.state space.old) (M.capacity memo.old) budget.old.spent budget.new.spent budget.new.limit) }
+    ensures answer { IfOk result (IsAnswer (game_of (S.play space.old) S.Key.eq) (S.state space.old)
+        (M.capacity memo.old) budget.old.spent budget.new.spent budget.new.limit) }
 {
     let key = space.key();
     if !expand(alloc, space, memo, &mut stack.steps, key, budget)? {
@@ -81,8 +83,8 @@ fn run<S: Space, M: Memo<S::Key>>(
                 let trail = trail_of(alloc, &stack.frames, step)?;
                 return Ok(Found::Won(trail));
             }
-            Met::New { step, undo, key } => {
-                if !step_on(alloc, space, memo, stack, step, undo, key, budget)? {
+            Met::New(met) => {
+                if !step_on(alloc, space, memo, stack, met, budget)? {
                     return Ok(Found::SpentAll);
                 }
             }

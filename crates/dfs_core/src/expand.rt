@@ -1,11 +1,12 @@
 //! Expanding a new state.
 
-ghost use Rattle.std.specs.Prelude.{◌≡◌, List, [], ◌∷◌, ◌++◌, IfOk};
+ghost use Rattle.std.specs.Prelude.{◌≡◌, IfOk};
 ghost use Rattle.std.specs.Bool.{OnTrue};
 ghost use Rattle.transposition.specs.Memo.{IsAbsent};
-ghost use Rattle.dfs_core.specs.Standing.{IsExpanded, IsSpent};
-ghost use Rattle.dfs_core.specs.Laid.{StackStands, StackIsNew, LeadsBack, steps_of};
+ghost use Rattle.dfs_core.specs.Standing.{IsNew, IsExpanded, IsSpent};
+ghost use Rattle.dfs_core.specs.Laid.{ShowsSome, ComesBack, Expands, memory_of, values};
 
+use crate::advance::NewState;
 use crate::space::Space;
 use crate::stack::{Stack, descend};
 use node_budget::Budget;
@@ -29,7 +30,8 @@ pub(crate) fn expand<S: Space, M: Memo<S::Key>>(
     ensures limit { budget.new.limit ≡ budget.old.limit }
     ensures spent { IfOk result (IsSpent budget.old.spent budget.new.spent budget.new.limit) }
     ensures expanded { IfOk result (λ expanded. OnTrue expanded
-        (IsExpanded (S.play space.old) (S.state space.old) steps.old.items key (M.live memo.old) (M.finished memo.old) steps.new.items (M.live memo.new) (M.finished memo.new))) }
+        (IsExpanded ((S.play space.old).steps (S.state space.old)) key
+        steps.old.items (memory_of M.Memo memo.old) steps.new.items (memory_of M.Memo memo.new))) }
 {
     if budget.spend().is_err() {
         return Ok(false);
@@ -46,20 +48,20 @@ pub(crate) fn step_on<S: Space, M: Memo<S::Key>>(
     space: &mut S,
     memo: &mut M,
     stack: &mut Stack<S::Step, S::Undo>,
-    step: S::Step,
-    undo: S::Undo,
-    key: S::Key,
+    met: NewState<S::Step, S::Undo, S::Key>,
     budget: &mut Budget,
 ) -> Result<bool, NoMemory>
-    requires { (first : S) × (walk : List (List S.Step)) × StackIsNew S.before S.state S.play S.Key.eq (M.capacity memo.old) first walk space.old stack.old.frames.items stack.old.steps.items stack.old.top (M.live memo.old) (M.finished memo.old) step undo key }
-    ensures leads { (first : S) (walk : List (List S.Step)) → StackIsNew S.before S.state S.play S.Key.eq (M.capacity memo.old) first walk space.old stack.old.frames.items stack.old.steps.items stack.old.top (M.live memo.old) (M.finished memo.old) step undo key
-        → LeadsBack S.before stack.new.frames.items space.new first }
+    requires { ShowsSome (IsNew S.Space S.Key.eq met) (values M.Memo space.old stack.old memo.old) }
+    ensures leads { ComesBack S.Space (IsNew S.Space S.Key.eq met)
+        (values M.Memo space.old stack.old memo.old) (values M.Memo space.new stack.new memo.new) }
     ensures capacity { M.capacity memo.new ≡ M.capacity memo.old }
     ensures limit { budget.new.limit ≡ budget.old.limit }
     ensures spent { IfOk result (IsSpent budget.old.spent budget.new.spent budget.new.limit) }
-    ensures stands { IfOk result (λ expanded. OnTrue expanded ((first : S) (walk : List (List S.Step)) → StackIsNew S.before S.state S.play S.Key.eq (M.capacity memo.old) first walk space.old stack.old.frames.items stack.old.steps.items stack.old.top (M.live memo.old) (M.finished memo.old) step undo key
-        → StackStands S.before S.state S.play S.Key.eq (M.capacity memo.new) first (walk ++ (steps_of stack.old.frames.items ++ step ∷ []) ∷ []) space.new stack.new.frames.items stack.new.steps.items stack.new.top (M.live memo.new) (M.finished memo.new))) }
+    ensures expands { IfOk result (λ expanded. OnTrue expanded
+        (Expands S.Space S.Key.eq met
+        (values M.Memo space.old stack.old memo.old) (values M.Memo space.new stack.new memo.new))) }
 {
+    let NewState { step, undo, key } = met;
     descend(space, stack, step, undo)?;
     expand(alloc, space, memo, &mut stack.steps, key, budget)
 }

@@ -2,7 +2,7 @@
 
 ghost use Rattle.std.specs.Prelude.{◌≡◌, ◌+◌, ◌<◌, [], ◌∷◌, ◌++◌, OnOk, OnErr, IfOk, IsSome, length};
 ghost use Rattle.dfs_core.specs.Undoing.{taken_back, before_frame};
-ghost use Rattle.dfs_core.specs.Laid.{Descends, steps_of};
+ghost use Rattle.dfs_core.specs.Laid.{Descends, stack_view, steps_of};
 
 use crate::space::Space;
 use crate::trail::Trail;
@@ -52,9 +52,10 @@ pub(crate) fn descend<S: Space>(
 ) -> Result<(), NoMemory>
     requires room { stack.old.top.next < length stack.old.steps.items }
     requires back { IsSome (S.before undo space.old) }
-    ensures ok { OnOk result (Descends stack.old.frames.items stack.old.steps.items stack.old.top step undo stack.new.frames.items stack.new.steps.items stack.new.top) }
+    ensures ok { OnOk result (Descends (stack_view stack.old) step undo (stack_view stack.new)) }
     ensures ok_space { OnOk result (space.new ≡ space.old) }
-    ensures err { OnErr result ((stack.new.frames.items ≡ stack.old.frames.items) × (S.before undo space.old ≡ Some space.new)) }
+    ensures err_frames { OnErr result (stack.new.frames.items ≡ stack.old.frames.items) }
+    ensures err { OnErr result (S.before undo space.old ≡ Some space.new) }
 {
     let level = Level {
         begin: stack.top.begin,

@@ -1,6 +1,7 @@
 //! Searches over numbers: a step adds one, or halves, on every number below the last. So there are cycles.
 //! The counts are those of a plain program over the same numbers, written apart.
-ghost use Rattle.std.specs.Prelude.{◌≡◌, ℕ, ◌+◌, ◌/◌, Some, List, [], ◌∷◌, true, false, nat_lt, nat_eq, max, if◌then◌else◌};
+ghost use Rattle.std.specs.Prelude.{◌≡◌, ℕ, ◌+◌, ◌/◌, Some, List, [], ◌∷◌, true, false};
+ghost use Rattle.std.specs.Prelude.{nat_lt, nat_eq, max, if◌then◌else◌};
 
 use super::*;
 use node_budget::Budget;

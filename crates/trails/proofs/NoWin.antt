@@ -13,10 +13,12 @@ module _ {State Step : Type 0} (game : Game State Step) where
     none_at : (n : ℕ) (l : List Step) → Contains walk l → ¬ Wins n (end game start l)
     none_at zero l c wins =
         let clean = clean_in game start walk is_walk l c in
-        at_end game (λ s. ¬ game.Won s) start l clean.not_won (complete.none (end game start l) (l, clean.steps, refl) wins)
+        at_end game (λ s. ¬ game.Won s) start l clean.not_won
+        (complete.none (end game start l) (l, clean.steps, refl) wins)
     none_at (suc n) l c wins =
         let clean = clean_in game start walk is_walk l c in
-        let near = complete.nearer n (end game start l) (l, clean.steps, refl) (at_end game (λ s. ¬ game.Won s) start l clean.not_won) wins in
+        let near = complete.nearer n (end game start l) (l, clean.steps, refl)
+        (at_end game (λ s. ¬ game.Won s) start l clean.not_won) wins in
         let settled = closed.each l near.0 c near.1 in
         let other = clean_in game start walk is_walk settled.trail settled.listed in
         none_at n settled.trail settled.listed

@@ -1,6 +1,7 @@
 //! What follows from the definitions of walks alone: each function's contract is one law, and its body is empty.
 
-ghost use Rattle.std.specs.Prelude.{◌≡◌, ◌≢◌, ℕ, ◌+◌, ◌<◌, ◌≤◌, List, [], ◌∷◌, ◌++◌, length, take, min, AllPairs, Contains};
+ghost use Rattle.std.specs.Prelude.{◌≡◌, ◌≢◌, ℕ, ◌+◌, ◌<◌, ◌≤◌};
+ghost use Rattle.std.specs.Prelude.{List, [], ◌∷◌, ◌++◌, length, take, min, AllPairs, Contains};
 ghost use Rattle.trails.specs.Game.{Game};
 ghost use Rattle.trails.specs.Trails.{IsPrefix, IsClean};
 ghost use Rattle.trails.specs.Walks.{Follows, IsWalk, IsClosed};
@@ -127,6 +128,8 @@ pub fn covers_are_longer<G: HasGame>(of: &G)
 /// In a complete game a closed walk leaves no win. This is why a search that is exhausted may say so.
 pub fn a_closed_walk_leaves_no_win<G: HasGame>(of: &G)
     ensures { (start : G.State) (walk : List (List G.Step))
-        → IsComplete (G.game of.now) (G.wins of.now) start → IsWalk (G.game of.now) start walk → IsClosed (G.game of.now) start walk
+        → IsComplete (G.game of.now) (G.wins of.now) start
+        → IsWalk (G.game of.now) start walk
+        → IsClosed (G.game of.now) start walk
         → (n : ℕ) → ¬ G.wins of.now n start }
 {}

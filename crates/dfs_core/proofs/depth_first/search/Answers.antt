@@ -1,8 +1,8 @@
 use Rattle.std.proofs.Common.{◌≡◌, ◌∙◌, refl, sym, subst, [], arith, true, IsSome}
 use Rattle.std.proofs.lemmas.Result.{IfOk-weaker}
 use Rattle.trails.specs.Trails.{end, IsTrail}
-use Rattle.trails.specs.Walks.{Follows}
-use Rattle.dfs_core.specs.Play.{game_of}
+use Rattle.dfs_core.specs.Search.{game, FollowsIn}
+use Rattle.dfs_core.specs.Standing.{problem_from}
 use Rattle.dfs_core.specs.Answer.{EndsWith}
 use Rattle.dfs_core.proofs.Moves.{follows_none, walk_none}
 use Rattle.dfs_core.proofs.Keeping.{fresh_none}
@@ -12,17 +12,16 @@ use Rattle.dfs_core.proofs.depth_first.search.Goals as goal
 
 pub returns-then-is_won-clause-answer : goal.returns-then-is_won-clause-answer
 returns-then-is_won-clause-answer g c =
-    let play = g.S.Space.play c.args.space.now in
-    let eq = g.S.Key.PartialEq.eq in
-    let start = g.S.Space.state c.args.space.now in
-    let game = game_of play eq in
+    let about = problem_from g.S.Space g.S.Key.PartialEq.eq c.args.space.now in
     record {
       walk = [];
-      is_walk = walk_none play eq start;
-      fresh = fresh_none play eq start (g.M.Memo.capacity c.args.memo);
+      is_walk = walk_none about;
+      fresh = fresh_none about (g.M.Memo.capacity c.args.memo);
       count = omega arith;
-      ends = subst (λ ts. Follows game start [] ts × IsTrail game start ts × (play.won (end game start ts) ≡ true)) (sym (c.from_vec.ensures ∙ c.new-steps.ensures.items))
-          (follows_none play eq start, tt, sym c.is_won.ensures ∙ c.if-is_won.true);
+      ends = subst (λ ts. FollowsIn about [] ts × IsTrail (game about) about.start ts
+          × (about.play.won (end (game about) about.start ts) ≡ true))
+          (sym (c.from_vec.ensures ∙ c.new-steps.ensures.items))
+          (follows_none about, tt, sym c.is_won.ensures ∙ c.if-is_won.true);
     }
 
 pub rewind-requires : goal.rewind-requires
@@ -35,10 +34,10 @@ returns-clause-back g c =
 
 pub returns-clause-no_win : goal.returns-clause-no_win
 returns-clause-no_win g c =
-    let play = g.S.Space.play c.args.space.now in
-    let start = g.S.Space.state c.args.space.now in
-    let game = game_of play g.S.Key.PartialEq.eq in
+    let about = problem_from g.S.Space g.S.Key.PartialEq.eq c.args.space.now in
+    let budget = c.run-found.new.budget in
     IfOk-weaker c.run-found.result _ _ (λ found a e complete n.
-    none_wins game (g.S.Space.wins c.args.space.now) start a.walk complete a.is_walk
-    (subst (EndsWith game start (g.M.Memo.capacity c.args.memo) a.walk c.run-found.new.budget.spent c.run-found.new.budget.limit) e a.ends) n)
+    none_wins (game about) (g.S.Space.wins c.args.space.now) about.start a.walk complete a.is_walk
+    (subst (EndsWith (game about) about.start (g.M.Memo.capacity c.args.memo) a.walk budget.spent budget.limit) e
+    a.ends) n)
     c.run-found.ensures.answer

@@ -1,50 +1,47 @@
 use Rattle.std.proofs.Common.{◌∙◌, sym, subst, [], ◌∷◌, ◌++◌, Bool, true, false}
 use Rattle.std.specs.Bool.{OnTrue}
 use Rattle.std.proofs.lemmas.Result.{IfOk-weaker}
-use Rattle.dfs_core.specs.Standing.{IsExpanded}
-use Rattle.dfs_core.specs.Laid.{StackStands, LeadsBack, steps_of}
-use Rattle.dfs_core.proofs.Stacks.{stack_room, stack_undo, stack_refused, stack_new_leads, stack_entered}
+use Rattle.dfs_core.specs.Standing.{IsExpanded, IsSearch}
+use Rattle.dfs_core.specs.Laid.{Shows, LeadsBack, stack_view, memory_of, values, steps_of}
+use Rattle.dfs_core.proofs.Showing.{new_room, new_undo, new_refused, new_leads_back, shown_expanded}
 use Rattle.dfs_core.proofs.expand.step_on.Goals as goal
 
 on_true : {A B : Type 0} (b : Bool) → (A → B) → OnTrue b A → OnTrue b B
 on_true true f h = f h
 on_true false f h = h
 
-pub returns-clause-leads : goal.returns-clause-leads
-returns-clause-leads g c = λ first walk h.
-    let d = c.in_ok-descend.ensures.ok in
-    subst (λ sp. LeadsBack g.S.Space.before c.descend.new.stack.frames.items sp first) (sym (c.expand.ensures.same ∙ c.in_ok-descend.ensures.ok_space))
-    (stack_new_leads g.S.Space.before g.S.Space.state g.S.Space.play g.S.Key.PartialEq.eq (g.M.Memo.capacity c.args.memo.now) g.met.S.Key.Eq.laws first walk c.args.space.now c.args.stack.now.frames.items c.args.stack.now.steps.items c.args.stack.now.top (g.M.Memo.live c.args.memo.now) (g.M.Memo.finished c.args.memo.now) c.args.step c.args.undo c.args.key h
-    c.descend.new.stack.frames.items c.descend.new.stack.steps.items c.descend.new.stack.top d)
-
-pub returns-clause-stands : goal.returns-clause-stands
-returns-clause-stands g c =
-    let d = c.in_ok-descend.ensures.ok in
-    IfOk-weaker c.expand.result _ _ (λ b. on_true b (λ e first walk h.
-    let x = subst (λ sp. IsExpanded (g.S.Space.play sp) (g.S.Space.state sp) c.descend.new.stack.steps.items c.args.key (g.M.Memo.live c.args.memo.now) (g.M.Memo.finished c.args.memo.now)
-    c.expand.new.steps.items (g.M.Memo.live c.expand.new.memo) (g.M.Memo.finished c.expand.new.memo)) c.in_ok-descend.ensures.ok_space e in
-    subst (λ sp. StackStands g.S.Space.before g.S.Space.state g.S.Space.play g.S.Key.PartialEq.eq (g.M.Memo.capacity c.expand.new.memo) first (walk ++ (steps_of c.args.stack.now.frames.items ++ c.args.step ∷ []) ∷ []) sp c.descend.new.stack.frames.items c.expand.new.steps.items c.descend.new.stack.top
-    (g.M.Memo.live c.expand.new.memo) (g.M.Memo.finished c.expand.new.memo))
-    (sym (c.expand.ensures.same ∙ c.in_ok-descend.ensures.ok_space))
-    (stack_entered g.S.Space.before g.S.Space.state g.S.Space.play g.S.Key.PartialEq.eq (g.M.Memo.capacity c.args.memo.now) g.met.S.Key.Eq.laws first walk c.args.space.now c.args.stack.now.frames.items c.args.stack.now.steps.items c.args.stack.now.top (g.M.Memo.live c.args.memo.now) (g.M.Memo.finished c.args.memo.now) c.args.step c.args.undo c.args.key h
-    c.descend.new.stack.frames.items c.descend.new.stack.steps.items c.descend.new.stack.top d
-    c.expand.new.steps.items (g.M.Memo.live c.expand.new.memo) (g.M.Memo.finished c.expand.new.memo) (g.M.Memo.capacity c.expand.new.memo)
-    x.items x.differ x.live_is x.finished_is c.expand.ensures.capacity)))
-    c.expand.ensures.expanded
-
-pub returns-in_err-descend-clause-leads : goal.returns-in_err-descend-clause-leads
-returns-in_err-descend-clause-leads g c = λ first walk h.
-    let e = c.in_err-descend.ensures.err in
-    subst (λ fs. LeadsBack g.S.Space.before fs c.descend.new.space first) (sym e.0)
-    (stack_refused g.S.Space.before g.S.Space.state g.S.Space.play g.S.Key.PartialEq.eq (g.M.Memo.capacity c.args.memo.now) g.met.S.Key.Eq.laws first walk c.args.space.now c.args.stack.now.frames.items c.args.stack.now.steps.items c.args.stack.now.top (g.M.Memo.live c.args.memo.now) (g.M.Memo.finished c.args.memo.now) c.args.step c.args.undo c.args.key h
-    c.descend.new.space e.1)
-
 pub descend-requires-clause-room : goal.descend-requires-clause-room
 descend-requires-clause-room g c =
-    let r = c.requires in
-    stack_room g.S.Space.before g.S.Space.state g.S.Space.play g.S.Key.PartialEq.eq (g.M.Memo.capacity c.args.memo.now) g.met.S.Key.Eq.laws r.0 r.1 c.args.space.now c.args.stack.now.frames.items c.args.stack.now.steps.items c.args.stack.now.top (g.M.Memo.live c.args.memo.now) (g.M.Memo.finished c.args.memo.now) c.args.step c.args.undo c.args.key r.2
+    new_room g.met.S.Key.Eq.laws c.requires.shown
 
 pub descend-requires-clause-back : goal.descend-requires-clause-back
 descend-requires-clause-back g c =
-    let r = c.requires in
-    stack_undo g.S.Space.before g.S.Space.state g.S.Space.play g.S.Key.PartialEq.eq (g.M.Memo.capacity c.args.memo.now) g.met.S.Key.Eq.laws r.0 r.1 c.args.space.now c.args.stack.now.frames.items c.args.stack.now.steps.items c.args.stack.now.top (g.M.Memo.live c.args.memo.now) (g.M.Memo.finished c.args.memo.now) c.args.step c.args.undo c.args.key r.2
+    new_undo g.met.S.Key.Eq.laws c.requires.shown
+
+pub returns-in_err-descend-clause-leads : goal.returns-in_err-descend-clause-leads
+returns-in_err-descend-clause-leads g c = λ first walk h.
+    let e = c.in_err-descend.ensures in
+    subst (λ fs. LeadsBack g.S.Space fs c.descend.new.space first) (sym e.err_frames)
+    (new_refused g.met.S.Key.Eq.laws h c.descend.new.space e.err)
+
+pub returns-clause-leads : goal.returns-clause-leads
+returns-clause-leads g c = λ first walk h.
+    subst (λ sp. LeadsBack g.S.Space c.descend.new.stack.frames.items sp first)
+    (sym (c.expand.ensures.same ∙ c.in_ok-descend.ensures.ok_space))
+    (new_leads_back g.met.S.Key.Eq.laws h c.in_ok-descend.ensures.ok)
+
+pub returns-clause-expands : goal.returns-clause-expands
+returns-clause-expands g c =
+    let old = values g.M.Memo c.args.space.now c.args.stack.now c.args.memo.now in
+    let descended = stack_view c.descend.new.stack in
+    let memory = memory_of g.M.Memo c.expand.new.memo in
+    IfOk-weaker c.expand.result _ _ (λ b. on_true b (λ e first walk h.
+    let x = subst (λ sp. IsExpanded ((g.S.Space.play sp).steps (g.S.Space.state sp)) c.args.met.key descended.steps
+    old.memory c.expand.new.steps.items memory) c.in_ok-descend.ensures.ok_space e in
+    subst (λ sp. Shows (IsSearch g.S.Space g.S.Key.PartialEq.eq) first
+    (walk ++ (steps_of old.stack.frames ++ c.args.met.step ∷ []) ∷ [])
+    (record { space = sp; stack = record descended { steps = c.expand.new.steps.items }; memory = memory }))
+    (sym (c.expand.ensures.same ∙ c.in_ok-descend.ensures.ok_space))
+    (shown_expanded g.met.S.Key.Eq.laws h c.in_ok-descend.ensures.ok c.expand.new.steps.items memory x
+    c.expand.ensures.capacity)))
+    c.expand.ensures.expanded

@@ -1,0 +1,53 @@
+-- What a search answers when it ends.
+use Rattle.std.proofs.Common.{◌≡◌, ℕ, ◌+◌, Bool, subst, List, length}
+use Rattle.dfs_core.specs.Search.{game, IsFreshIn}
+use Rattle.dfs_core.specs.Standing.{problem_from, IsSearch, IsNew, IsWin, IsOver, HasMet}
+use Rattle.dfs_core.specs.Laid.{Values, Shows}
+use Rattle.dfs_core.specs.Answer.{EndsWith, IsAnswer}
+use Rattle.dfs_core.specs.declared.space.Space.{Ghosts}
+use Rattle.dfs_core.specs.declared.advance.NewState.{NewState}
+use Rattle.dfs_core.specs.declared.advance.Met.{Met}
+use Rattle.dfs_core.specs.declared.advance.Met.TheVariants as met
+use Rattle.dfs_core.specs.declared.trail.Found.{Found}
+
+module _ {S State Step Key Undo : Type 0} (space : Ghosts S Key Step Undo State) (eq : Key → Key → Bool)
+    {first : S} {walk : List (List Step)} {now : Values S Step Key Undo} where
+  -- what was met, by its name
+  pub as_win : {m : Met Step Undo Key} {step : Step} → m ≡ met.Won step → Shows (HasMet space eq m) first walk now
+      → Shows (IsWin space eq step) first walk now
+  as_win e h = subst (λ m. Shows (HasMet space eq m) first walk now) e h
+
+  pub as_new : {m : Met Step Undo Key} {new : NewState Step Undo Key} → m ≡ met.New new
+      → Shows (HasMet space eq m) first walk now → Shows (IsNew space eq new) first walk now
+  as_new e h = subst (λ m. Shows (HasMet space eq m) first walk now) e h
+
+  pub as_over : {m : Met Step Undo Key} → m ≡ met.Exhausted → Shows (HasMet space eq m) first walk now
+      → Shows (IsOver space eq) first walk now
+  as_over e h = subst (λ m. Shows (HasMet space eq m) first walk now) e h
+
+module _ {S State Step Key Undo : Type 0} {space : Ghosts S Key Step Undo State} {eq : Key → Key → Bool}
+    {first : S} {walk : List (List Step)} {now : Values S Step Key Undo} where
+  -- the search that met it
+  pub before_win : {step : Step} → Shows (IsWin space eq step) first walk now → Shows (IsSearch space eq) first walk now
+  before_win h = record { line = h.line; laid = h.laid; is = h.is.before }
+
+  pub before_end : Shows (IsOver space eq) first walk now → Shows (IsSearch space eq) first walk now
+  before_end h = record { line = h.line; laid = h.laid; is = h.is.before }
+
+  pub before_new : {new : NewState Step Undo Key} → (h : Shows (IsNew space eq new) first walk now)
+      → Shows (IsSearch space eq) first walk (record now { space = h.is.from })
+  before_new h = record { line = h.line; laid = h.laid; is = h.is.before }
+
+  -- the walk ends with this answer
+  pub answered : Shows (IsSearch space eq) first walk now → {capacity before spent limit : ℕ} {answer : Found Step}
+      → now.memory.capacity ≡ capacity → before + length walk ≡ spent
+      → EndsWith (game (problem_from space eq first)) (space.state first) capacity walk spent limit answer
+      → IsAnswer (game (problem_from space eq first)) (space.state first) capacity before spent limit answer
+  answered h capacity_is count ends = record {
+    walk = walk;
+    is_walk = h.is.underway.is_walk;
+    fresh = subst (λ k. IsFreshIn (problem_from space eq first) k walk) capacity_is
+        h.is.kept.fresh;
+    count = count;
+    ends = ends;
+  }
