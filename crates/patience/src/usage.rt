@@ -3,13 +3,14 @@ use std::io;
 
 /// Prints how the program is called, one line a command, and where the manual is.
 pub fn print_usage(rt: &HostRuntime) -> io::Result<()> {
-    eprintln!(rt; "usage: patience solve RULES DEAL [--nodes N] [--cache N] [--memo linked|lru]")?;
-    eprintln!(rt;
-        "       patience solve RULES --seed N [--nodes N] [--cache N] [--memo linked|lru]"
-    )?;
+    eprintln!(rt; "usage: patience solve RULES DEAL [OPTIONS]")?;
+    eprintln!(rt; "       patience solve RULES --seed N [OPTIONS]")?;
     eprintln!(rt; "       patience deal RULES --seed N")?;
     eprintln!(rt; "       patience replay RULES DEAL LINE")?;
     eprintln!(rt; "       patience rules RULES")?;
+    eprintln!(rt;
+        "OPTIONS: [--nodes N] [--cache N] [--memo linked|lru] [--narrow N] [--way foundations|suits|both]"
+    )?;
     eprintln!(rt;
         "RULES, DEAL and LINE are names of files. The manual is docs/FORMATS.md in the program's repository."
     )
