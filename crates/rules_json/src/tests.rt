@@ -1,5 +1,3 @@
-//! Files that are read, and the first fault of those that are not.
-
 use crate::{RulePart, RulesFault, read_rules, write_rules};
 use card_piles::{Build, Card, Suit};
 use game_rules::{Face, Goal, Groups, HoleStart, Layout, Redeals, Spaces, Target};
