@@ -1,4 +1,4 @@
-// From the bytes of a file to its tree.
+//! From the bytes of a file to its tree.
 ghost use Rattle.std.specs.Prelude.{◌≡◌, ◌≢◌, Ok, Err, IfOk, IfErr};
 ghost use Rattle.serde_json.specs.View.{view};
 ghost use Rattle.json_tree.specs.Tree.{object_of};

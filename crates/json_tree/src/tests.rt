@@ -1,3 +1,5 @@
+//! Trees of files, and looking into them.
+
 use crate::{FileFault, MAX_FILE_LENGTH, field, has_only_keys, read_object};
 use serde_json::Value;
 

@@ -1,3 +1,5 @@
+//! A budget that is spent to its end.
+
 use super::*;
 
 #[test]

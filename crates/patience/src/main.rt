@@ -4,7 +4,7 @@
 //! Above: whoever runs the program relies on `patience`, whose clauses say of each status and text why they came, and
 //! which status is due to words and files.
 //! Refuses: words, rules, deals and lines by their first fault, a file that fails, a sink that fails, want of memory.
-//! Not promised: what a disk or a terminal holds, time, and what `main` does before the call.
+//! Not promised: what a disk or a terminal holds, time, and what `main` does beside the call.
 #![tactic(auto)]
 
 mod asked;
@@ -26,6 +26,7 @@ mod status;
 mod tests;
 mod texts;
 mod top;
+mod usage;
 
 ghost use Rattle.std.specs.Prelude.{◌≡◌};
 ghost use Rattle.std.specs.Process.{exit_status};
@@ -37,6 +38,7 @@ use std::alloc::Global;
 use std::process::ExitCode;
 use std::{env, io};
 use top::patience;
+use usage::print_usage;
 
 /// The words after the program's name, or the exit status where they cannot be had.
 fn words(rt: &HostRuntime) -> Result<Vec<String>, u8> {
@@ -71,5 +73,9 @@ fn main(rt: HostRuntime) -> ExitCode {
     let mut shelf = DiskShelf::new(&rt);
     let mut sink = StdSink::new(&rt);
     let status = patience(rt.alloc(), &words, &mut shelf, &mut sink);
+    if status == Status::Usage {
+        // A usage that cannot be printed changes nothing: the status and the refusal stand.
+        let _ = print_usage(&rt);
+    }
     exit_code(status)
 }

@@ -1,4 +1,4 @@
-// Why a rules file was refused.
+//! Why a rules file was refused.
 ghost use Rattle.std.specs.Prelude.{◌≡◌, Some};
 ghost use Rattle.rules_json.specs.Faults.{part_text, rules_fault_text, of_file};
 

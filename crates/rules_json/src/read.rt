@@ -1,4 +1,4 @@
-// From bytes to rules.
+//! From bytes to rules.
 ghost use Rattle.std.specs.Prelude.{◌≡◌, IsErrOf, Bool};
 ghost use Rattle.serde_json.specs.View.{view};
 ghost use Rattle.rules_json.specs.RulesFile.{rules_of, rules_of_tree, parts_of_tree, chosen_goal as chosen_goal_of};

@@ -1,4 +1,4 @@
-// The words of a rules file.
+//! The words of a rules file.
 ghost use Rattle.std.specs.Prelude.{◌≡◌, List, ℕ, Option};
 ghost use Rattle.rules_json.specs.Words as words;
 

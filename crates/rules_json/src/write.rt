@@ -1,4 +1,4 @@
-// From rules to their one spelling.
+//! From rules to their one spelling.
 ghost use Rattle.std.specs.Prelude.{◌≡◌, IfOk, Ok, Some};
 ghost use Rattle.serde_json.specs.Data.{string};
 ghost use Rattle.serde_json.specs.View.{view, members_view};
