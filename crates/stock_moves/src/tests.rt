@@ -143,6 +143,8 @@ fn the_list_has_the_stock_steps_of_each_board(rt: HostRuntime) -> Result<(), Fai
 fn expansions(alloc: Global, rules: &Rules, board: &Board) -> Result<Vec<Move>, Fail>
     requires { Belongs rules.now board.now }
 {
+    // This call brings that the rules are playable, and so that each stock step can be made.
+    let _ = rules.parts();
     let mut packed = Packed::from_board(rules, board);
     let mut steps = Vec::new(alloc);
     list_stock_steps(alloc, rules, &mut packed, &mut steps)?;
