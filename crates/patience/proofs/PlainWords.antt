@@ -14,6 +14,7 @@ use Rattle.rules_json.specs.RulesFile.{rules_of}
 use Rattle.deal_reader.specs.Position.{position_of}
 use Rattle.line_printer.specs.declared.verdict.Verdict.{Verdict}
 use Rattle.line_printer.specs.declared.verdict.Verdict.TheVariants as verdict
+use Rattle.stock_steps.specs.Steps.{after_steps}
 use Rattle.solve_job.specs.Verdicts.{IsVerdict}
 use Rattle.solve_job.proofs.Fixed.{no_line_wins}
 use Rattle.patience.specs.declared.status.Status.{Status}
@@ -55,7 +56,8 @@ same_deal rules deal bytes told = let same : Some deal ≡ Some bytes = told in 
 
 -- what a true verdict says
 says-from_verdict : (rules : RuleParts) (start : Board) (cache limit : ℕ) (v : Verdict) → IsVerdict rules start cache limit v → Says rules start limit v
-says-from_verdict rules start cache limit (verdict.Winnable moves nodes narrow_nodes) is = (is.0.end, is.0.legal, is.0.won)
+says-from_verdict rules start cache limit (verdict.Winnable moves nodes narrow_nodes) is =
+    (after_steps rules start is.0.trail, is.0.legal, is.0.won)
 says-from_verdict rules start cache limit (verdict.Unwinnable nodes narrow_nodes) is = λ moves end line won.
     no_line_wins rules start moves end is.0.never line won
 says-from_verdict rules start cache limit (verdict.Undecided nodes narrow_nodes) is = is.0.spent
