@@ -115,17 +115,13 @@ module _ (rules : RuleParts) (start : Board) (cache limit spent : ℕ)
       }
 
 -- the search's answer about a space is one about the start
-pub answer_of : (rules rules' : RuleParts) (start start' : Board) (cache cache' before limit limit' nodes spent : ℕ) (answer answer' : Found Move)
-    → rules' ≡ rules → start' ≡ start → cache' ≡ cache → before ≡ 0 → nodes ≡ spent → limit' ≡ limit → answer' ≡ answer
-    → IsAnswer (keyed_game rules') start' cache' before spent limit' answer' → IsAnswer (keyed_game rules) start cache 0 nodes limit answer
-answer_of rules rules' start start' cache cache' before limit limit' nodes spent answer answer' e1 e2 e3 e4 e5 e6 e7 h =
-    subst (λ r. IsAnswer (keyed_game r) start cache 0 nodes limit answer) e1
-    (subst (λ s. IsAnswer (keyed_game rules') s cache 0 nodes limit answer) e2
-    (subst (λ c. IsAnswer (keyed_game rules') start' c 0 nodes limit answer) e3
-    (subst (λ b. IsAnswer (keyed_game rules') start' cache' b nodes limit answer) e4
-    (subst (λ n. IsAnswer (keyed_game rules') start' cache' before n limit answer) (sym e5)
-    (subst (λ l. IsAnswer (keyed_game rules') start' cache' before spent l answer) e6
-    (subst (λ a. IsAnswer (keyed_game rules') start' cache' before spent limit' a) e7 h))))))
+pub answer_of : (rules rules' : RuleParts) (start start' : Board) (cache limit spent : ℕ) (answer answer' : Found Move)
+    → rules' ≡ rules → start' ≡ start → answer' ≡ answer
+    → IsAnswer (keyed_game rules') start' cache 0 spent limit answer' → IsAnswer (keyed_game rules) start cache 0 spent limit answer
+answer_of rules rules' start start' cache limit spent answer answer' e1 e2 e3 h =
+    subst (λ r. IsAnswer (keyed_game r) start cache 0 spent limit answer) e1
+    (subst (λ s. IsAnswer (keyed_game rules') s cache 0 spent limit answer) e2
+    (subst (λ a. IsAnswer (keyed_game rules') start' cache 0 spent limit a) e3 h))
 
 -- where so few boards cover the game, there is a verdict
 pub not_small : (rules : RuleParts) (start : Board) (cache limit nodes : ℕ) → IsUndecided rules start cache limit nodes → ¬ IsSmall rules start (min limit cache)

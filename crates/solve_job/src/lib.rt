@@ -8,6 +8,7 @@
 #![tactic(auto)]
 
 pub mod laws;
+mod search_anew;
 #[cfg(test)]
 mod tests;
 
@@ -16,14 +17,14 @@ ghost use Rattle.game_rules.specs.Belonging.{Belongs};
 ghost use Rattle.solve_job.specs.Verdicts.{IsVerdict, IsDecided, IsSmall};
 
 use card_piles::NoMemory;
-use dfs_core::{Found, search};
+use dfs_core::Found;
 use game_model::{Board, Rules};
 use legal_moves::Line;
 use line_printer::Verdict;
-use node_budget::Budget;
+pub use search_anew::MemoKind;
+use search_anew::{Searched, search_anew};
 use search_space::PlainSpace;
 use std::alloc::Global;
-use transposition::LruMemo;
 
 /// What a search may spend and remember.
 #[derive(Clone, Copy, Debug, PartialEq, Eq)]
@@ -32,6 +33,8 @@ pub struct Limits {
     pub cache: u32,
     /// How many boards may be expanded.
     pub nodes: u64,
+    /// Which memo the search asks. No clause of a verdict depends on it.
+    pub memo: MemoKind,
 }
 
 /// Searches for a line to a won board.
@@ -52,14 +55,11 @@ pub fn solve(
     // This call brings that the rules are playable.
     let _ = rules.parts();
     let mut space = PlainSpace::new(rules, start);
-    let mut budget = Budget::new(limits.nodes);
-    let Ok(memo) = LruMemo::new(alloc, limits.cache) else {
+    let Ok(searched) = search_anew(alloc, &mut space, limits.memo, limits.cache, limits.nodes)
+    else {
         return Err(NoMemory);
     };
-    let Ok(found) = search(alloc, &mut space, memo, &mut budget) else {
-        return Err(NoMemory);
-    };
-    let nodes = budget.spent();
+    let Searched { found, nodes } = searched;
     let narrow_nodes = 0;
     match found {
         Found::Won(trail) => Ok(Verdict::Winnable {

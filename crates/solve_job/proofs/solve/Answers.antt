@@ -1,4 +1,4 @@
-use Rattle.std.proofs.Common.{◌≤◌, ◌∙◌, refl, sym, subst}
+use Rattle.std.proofs.Common.{◌∙◌, refl, sym, subst}
 use Rattle.dfs_core.specs.declared.trail.Found.TheVariants as found
 use Rattle.search_space.proofs.Agreeing.{agrees}
 use Rattle.solve_job.specs.Verdicts.{IsWinnable, IsUndecided}
@@ -8,13 +8,10 @@ use Rattle.solve_job.proofs.solve.Goals as goal
 pub returns-in-Won-clause-verdict : goal.returns-in-Won-clause-verdict
 returns-in-Won-clause-verdict c =
     let agree = agrees c.args.rules.now c.args.start.now c.parts.ensures.playable c.requires.belongs in
-    let same_limit = c.in-Ok-search.ensures.limit ∙ c.new-budget.ensures.limit in
-    let within = subst (λ limit. c.spent-nodes.result ≤ limit) same_limit c.spent-nodes.ensures.within in
-    let answer = answer_of c.args.rules.now _ c.args.start.now _ c.args.limits.now.cache _ _ c.args.limits.now.nodes _ c.spent-nodes.result _
-    (found.Won c.in-Won.trail) _ c.new-space.ensures.rules c.new-space.ensures.stands c.in-Ok.ensures.capacity c.new-budget.ensures.spent c.spent-nodes.ensures.value same_limit c.in-Won.is
-    c.in-Ok-search.ensures.answer in
-    let wins = winnable c.args.rules.now c.args.start.now c.args.limits.now.cache c.args.limits.now.nodes c.spent-nodes.result agree within c.in-Won.trail answer in (
-      subst (λ line. IsWinnable c.args.rules.now c.args.start.now c.args.limits.now.cache c.args.limits.now.nodes line c.spent-nodes.result)
+    let answer = answer_of c.args.rules.now _ c.args.start.now _ c.args.limits.now.cache c.args.limits.now.nodes c.in-Ok.searched.nodes
+    (found.Won c.in-Won.trail) _ c.new-space.ensures.rules c.new-space.ensures.stands c.in-Won.is c.in-Ok.ensures.answer in
+    let wins = winnable c.args.rules.now c.args.start.now c.args.limits.now.cache c.args.limits.now.nodes c.in-Ok.searched.nodes agree c.in-Ok.ensures.within c.in-Won.trail answer in (
+      subst (λ line. IsWinnable c.args.rules.now c.args.start.now c.args.limits.now.cache c.args.limits.now.nodes line c.in-Ok.searched.nodes)
           (sym (c.from_vec.ensures ∙ c.into_vec.ensures)) wins,
       refl,
     )
@@ -22,29 +19,22 @@ returns-in-Won-clause-verdict c =
 pub returns-in-Exhausted-clause-verdict : goal.returns-in-Exhausted-clause-verdict
 returns-in-Exhausted-clause-verdict c =
     let agree = agrees c.args.rules.now c.args.start.now c.parts.ensures.playable c.requires.belongs in
-    let same_limit = c.in-Ok-search.ensures.limit ∙ c.new-budget.ensures.limit in
-    let within = subst (λ limit. c.spent-nodes.result ≤ limit) same_limit c.spent-nodes.ensures.within in
-    let answer = answer_of c.args.rules.now _ c.args.start.now _ c.args.limits.now.cache _ _ c.args.limits.now.nodes _ c.spent-nodes.result _
-    found.Exhausted _ c.new-space.ensures.rules c.new-space.ensures.stands c.in-Ok.ensures.capacity c.new-budget.ensures.spent c.spent-nodes.ensures.value same_limit c.in-Exhausted.is
-    c.in-Ok-search.ensures.answer in
+    let answer = answer_of c.args.rules.now _ c.args.start.now _ c.args.limits.now.cache c.args.limits.now.nodes c.in-Ok.searched.nodes
+    found.Exhausted _ c.new-space.ensures.rules c.new-space.ensures.stands c.in-Exhausted.is c.in-Ok.ensures.answer in
     let never = never_wins c.args.rules.now _ c.args.start.now _ c.new-space.ensures.rules c.new-space.ensures.stands c.new-space.ensures.complete
-    (c.in-Ok-search.ensures.no_win c.in-Exhausted.is) in
-    (unwinnable c.args.rules.now c.args.start.now c.args.limits.now.cache c.args.limits.now.nodes c.spent-nodes.result agree within answer never, refl)
+    (c.in-Ok.ensures.no_win c.in-Exhausted.is) in
+    (unwinnable c.args.rules.now c.args.start.now c.args.limits.now.cache c.args.limits.now.nodes c.in-Ok.searched.nodes agree c.in-Ok.ensures.within answer never, refl)
 
 -- the nodes ran out
-undecided_here : (c : goal.In-SpentAll) → IsUndecided c.args.rules.now c.args.start.now c.args.limits.now.cache c.args.limits.now.nodes c.spent-nodes.result
+undecided_here : (c : goal.In-SpentAll) → IsUndecided c.args.rules.now c.args.start.now c.args.limits.now.cache c.args.limits.now.nodes c.in-Ok.searched.nodes
 undecided_here c =
     let agree = agrees c.args.rules.now c.args.start.now c.parts.ensures.playable c.requires.belongs in
-    let same_limit = c.in-Ok-search.ensures.limit ∙ c.new-budget.ensures.limit in
-    let within = subst (λ limit. c.spent-nodes.result ≤ limit) same_limit c.spent-nodes.ensures.within in
-    let answer = answer_of c.args.rules.now _ c.args.start.now _ c.args.limits.now.cache _ _ c.args.limits.now.nodes _ c.spent-nodes.result _
-    found.SpentAll _ c.new-space.ensures.rules c.new-space.ensures.stands c.in-Ok.ensures.capacity c.new-budget.ensures.spent c.spent-nodes.ensures.value same_limit c.in-SpentAll.is
-    c.in-Ok-search.ensures.answer in
-    undecided c.args.rules.now c.args.start.now c.args.limits.now.cache c.args.limits.now.nodes c.spent-nodes.result agree within answer
+    let answer = answer_of c.args.rules.now _ c.args.start.now _ c.args.limits.now.cache c.args.limits.now.nodes c.in-Ok.searched.nodes
+    found.SpentAll _ c.new-space.ensures.rules c.new-space.ensures.stands c.in-SpentAll.is c.in-Ok.ensures.answer in
+    undecided c.args.rules.now c.args.start.now c.args.limits.now.cache c.args.limits.now.nodes c.in-Ok.searched.nodes agree c.in-Ok.ensures.within answer
 
 pub returns-in-SpentAll-clause-verdict : goal.returns-in-SpentAll-clause-verdict
 returns-in-SpentAll-clause-verdict c = (undecided_here c, refl)
 
 pub returns-in-SpentAll-clause-decides : goal.returns-in-SpentAll-clause-decides
-returns-in-SpentAll-clause-decides c =
-    not_small c.args.rules.now c.args.start.now c.args.limits.now.cache c.args.limits.now.nodes c.spent-nodes.result (undecided_here c)
+returns-in-SpentAll-clause-decides c = not_small c.args.rules.now c.args.start.now c.args.limits.now.cache c.args.limits.now.nodes c.in-Ok.searched.nodes (undecided_here c)
