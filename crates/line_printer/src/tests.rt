@@ -3,7 +3,6 @@ use crate::{LineFault, Verdict, read_line, write_line, write_verdict};
 use game_rules::{Move, Place};
 use legal_moves::Line;
 use std::alloc::Global;
-use std::process::Abort;
 use std::test::Fail;
 
 fn carry(from: Place, to: Place, count: u8) -> Move {
@@ -18,83 +17,49 @@ fn fault_of(alloc: Global, bytes: &[u8]) -> Option<LineFault> {
     }
 }
 
-/// The move has this text, and the text reads as the move.
-fn row(rt: &impl Abort, alloc: Global, m: Move, text: &str) -> Result<(), Fail> {
-    let written = write_line(alloc, &[m])?;
-    let file = format!(in alloc; "{text}\n")?;
-    assert!(rt; written.as_slice() == file.as_bytes());
-    let read = read_line(alloc, file.as_bytes())?;
-    assert!(rt; read.items() == [m].as_slice());
-    Ok(())
-}
+const EACH_FORM: &str =
+    "t0 t1 1\nt10 t255 0\nt3 t2 13\nt0 f0\nt0 f0 2\nt0 f0 0\nt0 h\nc0 t9\nt7 c15\nr51 f3\nw f1\nw w 255\nh w\ns1 s0\ndeal\nredeal\n";
 
 #[test]
 fn each_move_has_one_text(rt: HostRuntime) -> Result<(), Fail> {
     let alloc = rt.alloc();
-    let rows = [
-        (carry(Place::Tableau(0), Place::Tableau(1), 1), "t0 t1 1"),
-        (
-            carry(Place::Tableau(10), Place::Tableau(255), 0),
-            "t10 t255 0",
-        ),
-        (carry(Place::Tableau(3), Place::Tableau(2), 13), "t3 t2 13"),
-        (carry(Place::Tableau(0), Place::Foundation(0), 1), "t0 f0"),
-        (carry(Place::Tableau(0), Place::Foundation(0), 2), "t0 f0 2"),
-        (carry(Place::Tableau(0), Place::Foundation(0), 0), "t0 f0 0"),
-        (carry(Place::Tableau(0), Place::Hole, 1), "t0 h"),
-        (carry(Place::Cell(0), Place::Tableau(9), 1), "c0 t9"),
-        (carry(Place::Tableau(7), Place::Cell(15), 1), "t7 c15"),
-        (carry(Place::Reserve(51), Place::Foundation(3), 1), "r51 f3"),
-        (carry(Place::Waste, Place::Foundation(1), 1), "w f1"),
-        (carry(Place::Waste, Place::Waste, 255), "w w 255"),
-        (carry(Place::Hole, Place::Waste, 1), "h w"),
-        (carry(Place::Slot(1), Place::Slot(0), 1), "s1 s0"),
-        (Move::Deal, "deal"),
-        (Move::Redeal, "redeal"),
+    let moves = [
+        carry(Place::Tableau(0), Place::Tableau(1), 1),
+        carry(Place::Tableau(10), Place::Tableau(255), 0),
+        carry(Place::Tableau(3), Place::Tableau(2), 13),
+        carry(Place::Tableau(0), Place::Foundation(0), 1),
+        carry(Place::Tableau(0), Place::Foundation(0), 2),
+        carry(Place::Tableau(0), Place::Foundation(0), 0),
+        carry(Place::Tableau(0), Place::Hole, 1),
+        carry(Place::Cell(0), Place::Tableau(9), 1),
+        carry(Place::Tableau(7), Place::Cell(15), 1),
+        carry(Place::Reserve(51), Place::Foundation(3), 1),
+        carry(Place::Waste, Place::Foundation(1), 1),
+        carry(Place::Waste, Place::Waste, 255),
+        carry(Place::Hole, Place::Waste, 1),
+        carry(Place::Slot(1), Place::Slot(0), 1),
+        Move::Deal,
+        Move::Redeal,
     ];
-    for (m, text) in rows {
-        row(&rt, alloc, m, text)?;
-    }
+    let written = write_line(alloc, moves.as_slice())?;
+    assert!(rt; written.as_slice() == EACH_FORM.as_bytes());
+    let read = read_line(alloc, EACH_FORM.as_bytes())?;
+    assert!(rt; read.items() == moves.as_slice());
     Ok(())
 }
+
+// Between bars, texts that are no moves.
+const NO_MOVES: &str =
+    "| |t0 f0 1|t0 t1|t00 h|t0 t1 01|t0 t1 1 | t0 h|t0  h|t0 h |t256 h|t0 t1 256|t h|t+1 h|\
+    t-1 h|w0 h|h0 w|T0 h|t0,h|t0 h 1|t0 t1 1 1|Deal|deal |deals|redeal 1|x0 h|t0|t0 h\r";
 
 #[test]
 fn other_spellings_are_no_move_texts(rt: HostRuntime) -> Result<(), Fail> {
     let alloc = rt.alloc();
-    let texts = [
-        "",
-        " ",
-        "t0 f0 1",
-        "t0 t1",
-        "t00 h",
-        "t0 t1 01",
-        "t0 t1 1 ",
-        " t0 h",
-        "t0  h",
-        "t0 h ",
-        "t256 h",
-        "t0 t1 256",
-        "t h",
-        "t+1 h",
-        "t-1 h",
-        "w0 h",
-        "h0 w",
-        "T0 h",
-        "t0,h",
-        "t0 h 1",
-        "t0 t1 1 1",
-        "Deal",
-        "deal ",
-        "deals",
-        "redeal 1",
-        "x0 h",
-        "t0",
-        "t0 h\r",
-    ];
-    for text in texts {
+    for text in NO_MOVES.split('|') {
         let file = format!(in alloc; "{text}\n")?;
         let fault = fault_of(alloc, file.as_bytes());
-        assert!(rt; fault == Some(LineFault::BadMove { line: 1 }));
+        assert!(rt; fault == Some(LineFault::BadMove { line: 1 }), "{text}");
     }
     Ok(())
 }

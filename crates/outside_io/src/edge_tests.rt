@@ -61,25 +61,18 @@ impl Write for SlowWriter {
 }
 
 #[test]
-fn short_reads_are_put_together(rt: HostRuntime) -> Result<(), Fail> {
-    for (limit, expected) in [(0, "a"), (1, "ab"), (3, "abcd"), (4, "abcde"), (9, "abcde")] {
-        let mut out = Vec::new(rt.alloc());
-        let mut faults = 7;
-        let mut file = SlowReader {
-            rest: b"abcde",
-            reads: 0,
-            failing: 99,
-        };
-        assert_eq!(rt; read_up_to(&mut file, limit, &mut out, &mut faults), Ok(()));
-        assert_eq!(rt; out.as_slice(), expected.as_bytes(), "up to {limit}");
-        assert_eq!(rt; faults, 7);
-    }
-    Ok(())
-}
-
-#[test]
-fn a_read_that_fails_is_no_end(rt: HostRuntime) -> Result<(), Fail> {
-    for failing in [0, 1, 3] {
+fn short_reads_are_put_together_and_a_read_that_fails_is_no_end(rt: HostRuntime) {
+    let failed = Err(ShelfFault::Failed);
+    for (limit, failing, expected, text) in [
+        (0, 99, Ok(()), "a"),
+        (1, 99, Ok(()), "ab"),
+        (3, 99, Ok(()), "abcd"),
+        (4, 99, Ok(()), "abcde"),
+        (9, 99, Ok(()), "abcde"),
+        (9, 0, failed, ""),
+        (9, 1, failed, "ab"),
+        (9, 3, failed, "abcde"),
+    ] {
         let mut out = Vec::new(rt.alloc());
         let mut faults = 7;
         let mut file = SlowReader {
@@ -87,11 +80,11 @@ fn a_read_that_fails_is_no_end(rt: HostRuntime) -> Result<(), Fail> {
             reads: 0,
             failing,
         };
-        let read = read_up_to(&mut file, 9, &mut out, &mut faults);
-        assert_eq!(rt; read, Err(ShelfFault::Failed), "at read {failing}");
-        assert_eq!(rt; faults, 8);
+        let read = read_up_to(&mut file, limit, &mut out, &mut faults);
+        let counted = faults == if read.is_ok() { 7 } else { 8 };
+        let right = read == expected && out.as_slice() == text.as_bytes() && counted;
+        assert!(rt; right, "up to {limit}, failing at {failing}");
     }
-    Ok(())
 }
 
 #[test]
@@ -99,9 +92,8 @@ fn a_reader_that_tells_its_bytes(rt: HostRuntime) -> Result<(), Fail> {
     let mut out = Vec::new(rt.alloc());
     let mut faults = 0;
     let mut file: &[u8] = b"abcdef";
-    assert_eq!(rt; read_up_to(&mut file, 2, &mut out, &mut faults), Ok(()));
-    assert_eq!(rt; out.as_slice(), b"abc".as_slice());
-    assert_eq!(rt; file, b"def".as_slice());
+    read_up_to(&mut file, 2, &mut out, &mut faults)?;
+    assert!(rt; out.as_slice() == b"abc".as_slice() && file == b"def".as_slice());
     Ok(())
 }
 
@@ -120,12 +112,9 @@ fn short_writes_are_gone_on_with(rt: HostRuntime) {
             idle,
         };
         let mut faults = u64::MAX - 1;
-        assert_eq!(rt;
-            write_whole(&mut writer, b"abcde", &mut faults),
-            written,
-            "{failing}, {idle}"
-        );
-        assert_eq!(rt; writer.taken.as_slice(), taken.as_bytes());
-        assert_eq!(rt; faults == u64::MAX, written.is_err());
+        let right = write_whole(&mut writer, b"abcde", &mut faults) == written
+            && writer.taken.as_slice() == taken.as_bytes()
+            && (faults == u64::MAX) == written.is_err();
+        assert!(rt; right, "{failing}, {idle}");
     }
 }

@@ -1,46 +1,78 @@
+//! Fetches and puts in a row, over shelves and sinks in memory and over those of the system.
 ghost use Rattle.std.specs.Prelude.{◌≡◌, [], IsTrue, IfErr};
 ghost use Rattle.outside_io.specs.MemoryShelf.{listed_calls, was_added, SameFaults};
 ghost use Rattle.outside_io.specs.declared.shelf.ShelfFault.TheVariants.{Memory};
 
-use crate::{DiskShelf, MemoryShelf, MemorySink, Shelf, ShelfFault, Sink, SinkFailed, StdSink};
+use crate::{DiskShelf, MemoryShelf, MemorySink, Shelf, ShelfFault, Sink, StdSink};
+use std::alloc::AllocError;
 use std::fs;
 use std::test::Fail;
 
-#[test]
-fn gives_the_front_of_the_first_file(rt: HostRuntime) -> Result<(), Fail> {
-    let mut shelf = MemoryShelf::new(rt.alloc());
-    shelf.add("rules", b"xyz")?;
-    shelf.add("deal", b"")?;
-    shelf.add("rules", b"later")?;
-    let mut out = Vec::new(rt.alloc());
-    for limit in [0, 1, 2, u64::MAX] {
-        shelf.fetch("rules", limit, &mut out)?;
-        out.push(b'.')?;
+/// Fetches each name up to its limit, and appends what it gave and a dot, or a bang if the fetch failed.
+fn fetch_all<S: Shelf>(
+    shelf: &mut S,
+    fetches: &[(&str, u64)],
+    out: &mut Vec<u8>,
+) -> Result<(), AllocError> {
+    for (name, limit) in fetches {
+        match shelf.fetch(name, *limit, out) {
+            Ok(()) => out.push(b'.')?,
+            Err(ShelfFault::Failed) => out.push(b'!')?,
+            Err(ShelfFault::Memory) => return Err(AllocError),
+        }
     }
-    shelf.fetch("deal", 0, &mut out)?;
-    assert_eq!(rt; out.as_slice(), b"x.xy.xyz.xyz.".as_slice());
     Ok(())
 }
 
 #[test]
-fn fails_at_listed_fetches_and_unknown_names(rt: HostRuntime) -> Result<(), Fail> {
+fn a_shelf_in_memory_fails_where_it_is_told_to(rt: HostRuntime) -> Result<(), Fail> {
     let mut shelf = MemoryShelf::new(rt.alloc());
-    shelf.add("rules", b"x")?;
-    shelf.fail_at(1)?;
+    shelf.add("rules", b"xyz")?;
+    shelf.add("deal", b"")?;
+    shelf.add("rules", b"later")?;
+    shelf.fail_at(5)?;
     let mut out = Vec::new(rt.alloc());
-    shelf.fetch("rules", 9, &mut out)?;
-    assert_eq!(rt;
-        shelf.fetch("rules", 9, &mut out),
-        Err(ShelfFault::Failed),
-        "listed"
-    );
-    assert_eq!(rt;
-        shelf.fetch("deal", 9, &mut out),
-        Err(ShelfFault::Failed),
-        "not added"
-    );
-    shelf.fetch("rules", 9, &mut out)?;
-    assert_eq!(rt; out.as_slice(), b"xx".as_slice());
+    let fetches = [
+        ("rules", 0),
+        ("rules", 1),
+        ("rules", 2),
+        ("rules", u64::MAX),
+        ("deal", 0),
+        ("rules", 9),
+        ("line", 9),
+        ("rules", 9),
+    ];
+    fetch_all(&mut shelf, &fetches, &mut out)?;
+    assert!(rt; out.as_slice() == b"x.xy.xyz.xyz..!!xyz.".as_slice());
+    Ok(())
+}
+
+#[test]
+fn reads_a_file_of_the_disk(rt: HostRuntime) -> Result<(), Fail> {
+    fs::write(&rt, "shelved.txt", "a file")?;
+    let mut shelf = DiskShelf::new(&rt);
+    let mut out = Vec::new(rt.alloc());
+    let fetches = [
+        ("shelved.txt", 0),
+        ("shelved.txt", 4),
+        ("shelved.txt", 100),
+        ("not-there.txt", 9),
+        (".", 9),
+    ];
+    fetch_all(&mut shelf, &fetches, &mut out)?;
+    assert!(rt; out.as_slice() == b"a.a fil.a file.!!".as_slice());
+    Ok(())
+}
+
+/// Puts each piece, and gives a dot for each that was written whole and a bang for each other.
+fn put_all<S: Sink>(sink: &mut S, pieces: &[&str], marks: &mut Vec<u8>) -> Result<(), AllocError> {
+    for piece in pieces {
+        let mark = match sink.put(piece.as_bytes()) {
+            Ok(()) => b'.',
+            Err(_) => b'!',
+        };
+        marks.push(mark)?;
+    }
     Ok(())
 }
 
@@ -50,44 +82,21 @@ fn fails_at_listed_puts_and_long_pieces(rt: HostRuntime) -> Result<(), Fail> {
     sink.fail_at(1, 2)?;
     sink.fail_at(1, 0)?;
     sink.fail_at(4, 9)?;
-    assert_eq!(rt; sink.put(b"ab"), Ok(()));
-    assert_eq!(rt; sink.put(b"cde"), Err(SinkFailed), "listed");
-    assert_eq!(rt; sink.bytes(), b"abcd".as_slice());
-    assert_eq!(rt; sink.put(b"12345"), Err(SinkFailed), "too long");
-    assert_eq!(rt; sink.put(b"1"), Ok(()));
-    assert_eq!(rt; sink.put(b"23456"), Err(SinkFailed), "listed and too long");
-    assert_eq!(rt; sink.put(b""), Ok(()));
-    assert_eq!(rt; sink.bytes(), b"abcd1234".as_slice());
+    let mut marks = Vec::new(rt.alloc());
+    // The second is listed, the third too long, and the fifth both.
+    let pieces = ["ab", "cde", "12345", "1", "23456", ""];
+    put_all(&mut sink, &pieces, &mut marks)?;
+    assert!(rt; marks.as_slice() == b".!!.!.".as_slice());
+    assert!(rt; sink.bytes() == b"abcd1234".as_slice());
     Ok(())
 }
 
 #[test]
-fn reads_a_file_of_the_disk(rt: HostRuntime) -> Result<(), Fail> {
-    fs::write(&rt, "shelved.txt", "a file")?;
-    let mut shelf = DiskShelf::new(&rt);
-    let mut out = Vec::new(rt.alloc());
-    shelf.fetch("shelved.txt", 0, &mut out)?;
-    shelf.fetch("shelved.txt", 4, &mut out)?;
-    shelf.fetch("shelved.txt", 100, &mut out)?;
-    assert_eq!(rt; out.as_slice(), b"aa fila file".as_slice());
-    assert_eq!(rt;
-        shelf.fetch("not-there.txt", 9, &mut out),
-        Err(ShelfFault::Failed)
-    );
-    assert_eq!(rt;
-        shelf.fetch(".", 9, &mut out),
-        Err(ShelfFault::Failed),
-        "a directory"
-    );
-    assert_eq!(rt; out.len(), 12);
+fn writes_to_the_standard_output(rt: HostRuntime) -> Result<(), Fail> {
+    let mut marks = Vec::new(rt.alloc());
+    put_all(&mut StdSink::new(&rt), &["a line\n", ""], &mut marks)?;
+    assert!(rt; marks.as_slice() == b"..".as_slice());
     Ok(())
-}
-
-#[test]
-fn writes_to_the_standard_output(rt: HostRuntime) {
-    let mut sink = StdSink::new(&rt);
-    assert_eq!(rt; sink.put(b"a line\n"), Ok(()));
-    assert_eq!(rt; sink.put(b""), Ok(()));
 }
 
 // Where no call is listed, a fetch of an added name fails for want of memory alone.
@@ -106,6 +115,6 @@ fn no_added_file_fails_unlisted(rt: HostRuntime) -> Result<(), Fail> {
     shelf.add("rules", b"x")?;
     let mut out = Vec::new(rt.alloc());
     fetch_added(&mut shelf, "rules", &mut out)?;
-    assert_eq!(rt; out.as_slice(), b"x".as_slice());
+    assert!(rt; out.as_slice() == b"x".as_slice());
     Ok(())
 }
