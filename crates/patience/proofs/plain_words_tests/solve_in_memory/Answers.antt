@@ -5,7 +5,6 @@ use Rattle.outside_io.specs.Shelf.{File}
 use Rattle.outside_io.specs.MemoryShelf.{shelf_files, shelf_faults}
 use Rattle.outside_io.specs.MemorySink.{sink_bytes}
 use Rattle.solver_words.specs.Texts.{texts}
-use Rattle.patience.specs.declared.status.Status.TheVariants.{Memory}
 use Rattle.patience.specs.Answers.{WritesWhole}
 use Rattle.patience.specs.Causes.{Explains}
 use Rattle.patience.specs.PlainWords.{Prints}
