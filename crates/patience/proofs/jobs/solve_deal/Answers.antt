@@ -7,9 +7,9 @@ use Rattle.patience.proofs.jobs.solve_deal.Goals as goal
 pub solve-requires-clause-some_cache : goal.solve-requires-clause-some_cache
 solve-requires-clause-some_cache g c =
     let limits = limits-job_of (texts c.args.words.now) (job_asked c.args.asked) c.requires in
-    omega (arith, c.limits.ensures.cache, limits.0)
+    omega (arith, c.limits-limits.ensures.cache, limits.0)
 
 pub solve-requires-clause-some_nodes : goal.solve-requires-clause-some_nodes
 solve-requires-clause-some_nodes g c =
     let limits = limits-job_of (texts c.args.words.now) (job_asked c.args.asked) c.requires in
-    omega (arith, c.limits.ensures.nodes, limits.0, limits.2)
+    omega (arith, c.limits-limits.ensures.nodes, limits.0, limits.2)
