@@ -1,3 +1,4 @@
+pub mod Singles
 pub mod Whole
 pub mod WellBoards
 pub mod Returning

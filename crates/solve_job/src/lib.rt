@@ -1,4 +1,4 @@
-//! The solver: a depth-first search over the moves that lose no win, with a memo of a stated size.
+//! The solver: a depth-first search over the steps that lose no win, with a memo of a stated size.
 //!
 //! Means: a verdict speaks of one start under its rules. `Limits` are what a search may spend and remember.
 //! Above: `solve` answers winnable with a line of legal moves to a won board, unwinnable only where no
@@ -11,6 +11,7 @@ pub mod laws;
 mod search_anew;
 #[cfg(test)]
 mod tests;
+mod trail_line;
 
 ghost use Rattle.std.specs.Prelude.{◌≡◌, ◌≤◌, IfOk, min};
 ghost use Rattle.game_rules.specs.Belonging.{Belongs};
@@ -19,12 +20,12 @@ ghost use Rattle.solve_job.specs.Verdicts.{IsVerdict, IsDecided, IsSmall};
 use card_piles::NoMemory;
 use dfs_core::Found;
 use game_model::{Board, Rules};
-use legal_moves::Line;
 use line_printer::Verdict;
 pub use search_anew::MemoKind;
 use search_anew::{Searched, search_anew};
 use search_space::PlainSpace;
 use std::alloc::Global;
+use trail_line::line_of;
 
 /// What a search may spend and remember.
 #[derive(Clone, Copy, Debug, PartialEq, Eq)]
@@ -63,7 +64,7 @@ pub fn solve(
     let narrow_nodes = 0;
     match found {
         Found::Won(trail) => Ok(Verdict::Winnable {
-            line: Line::from_vec(trail.into_vec()),
+            line: line_of(alloc, rules, start, trail.items())?,
             nodes,
             narrow_nodes,
         }),
