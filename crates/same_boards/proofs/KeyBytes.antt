@@ -26,7 +26,7 @@ use Rattle.game_rules.specs.Board.{Board, Pile, top_of, height_at}
 use Rattle.game_rules.specs.Winning.{rows_of}
 use Rattle.game_rules.specs.Belonging.{Belongs, lies_well, most_redeals}
 use Rattle.same_boards.specs.Same.{keeps_pile_order, heights_of_suit}
-use Rattle.same_boards.specs.Keys.{sorted, sorted_bytes, sorted_lists, card_byte, card_bytes, entry_byte, counted, cards_in, height_bytes, hole_bytes, cell_bytes, reserve_bytes, pile_bytes, piles_bytes, row_bytes, rows_bytes, key_bytes}
+use Rattle.same_boards.specs.Keys.{sorted, sorted_bytes, sorted_lists, card_byte, card_bytes, entry_byte, counted, cards_in, height_bytes, hole_bytes, cell_bytes, reserve_bytes, pile_bytes, piles_bytes, row_bytes, rows_bytes, key_bytes, key_with}
 use Rattle.game_rules.proofs.Limits.{limits_of, numbers_within}
 use Rattle.same_boards.proofs.Renaming.{either}
 use Rattle.same_boards.proofs.Sorting.{sorted-permutation}
@@ -76,7 +76,7 @@ all-concat : (lists : List (List ℕ)) → All AreBytes lists → AreBytes (conc
 all-concat [] all = All-nil IsByte
 all-concat (list ∷ lists) all = All-append IsByte list (concat lists) (All-head AreBytes list lists all) (all-concat lists (All-tail AreBytes list lists all))
 
-if-are : (t : Bool) (xs : List ℕ) → AreBytes xs → AreBytes (if t then xs else [])
+pub if-are : (t : Bool) (xs : List ℕ) → AreBytes xs → AreBytes (if t then xs else [])
 if-are true xs all = all
 if-are false xs all = All-nil IsByte
 
@@ -92,17 +92,20 @@ height-small rules board f belongs =
     (λ h. leb-true (height_at board f) rules.max_rank (each f 0 h))
     (λ h. let none : height_at board f ≡ 0 = get_or_past board.heights f 0 h in omega arith)
 
-suit-are : (rules : RuleParts) (board : Board) (suit : ℕ) → HasLimits rules → Belongs rules board → AreBytes (sorted_bytes (heights_of_suit rules board suit))
+-- the heights of the foundations of a suit are bytes
+pub suit-are : (rules : RuleParts) (board : Board) (suit : ℕ) → HasLimits rules → Belongs rules board → AreBytes (heights_of_suit rules board suit)
 suit-are rules board suit limits belongs =
-    sorted-are IsByte nat_cmp (heights_of_suit rules board suit)
-    (All-map IsByte (λ (deck : ℕ). height_at board (4 * deck + suit)) (range_with_len 0 rules.decks)
+    All-map IsByte (λ (deck : ℕ). height_at board (4 * deck + suit)) (range_with_len 0 rules.decks)
     (λ k d h. let small = height-small rules board (4 * get_or (range_with_len 0 rules.decks) k d + suit) belongs in
     let most : rules.max_rank ≤ 13 = limits.max_rank in
-    omega (arith, small, most)))
+    omega (arith, small, most))
+
+pub sorted_bytes-are : (bytes : List ℕ) → AreBytes bytes → AreBytes (sorted_bytes bytes)
+sorted_bytes-are bytes all = sorted-are IsByte nat_cmp bytes all
 
 heights-are : (rules : RuleParts) (board : Board) → HasLimits rules → Belongs rules board → AreBytes (all_heights rules board)
 heights-are rules board limits belongs =
-    let suit : (s : ℕ) → AreBytes (sorted_bytes (heights_of_suit rules board s)) = λ s. suit-are rules board s limits belongs in
+    let suit : (s : ℕ) → AreBytes (sorted_bytes (heights_of_suit rules board s)) = λ s. sorted_bytes-are (heights_of_suit rules board s) (suit-are rules board s limits belongs) in
     All-append IsByte (sorted_bytes (heights_of_suit rules board 0)) _ (suit 0)
     (All-append IsByte (sorted_bytes (heights_of_suit rules board 1)) _ (suit 1)
     (All-append IsByte (sorted_bytes (heights_of_suit rules board 2)) (sorted_bytes (heights_of_suit rules board 3)) (suit 2) (suit 3)))
@@ -124,7 +127,7 @@ face_down-small : (face : Face) (pile : Pile) → IsTrue (lies_well face pile) �
 face_down-small AllUp pile h = let none : pile.face_down ≡ 0 = eqb-true pile.face_down 0 h in omega arith
 face_down-small TopUp pile h = let few : pile.face_down ≤ length pile.cards - 1 = leb-true pile.face_down (length pile.cards - 1) h in omega arith
 
-pile-small : (piles : List Pile) (k : ℕ) (d : Pile) → k < length piles → length (get_or piles k d).cards ≤ length (cards_of_piles piles)
+pub pile-small : (piles : List Pile) (k : ℕ) (d : Pile) → k < length piles → length (get_or piles k d).cards ≤ length (cards_of_piles piles)
 pile-small piles k d h =
     let one = get_or-le-sum_by (λ (pile : Pile). length pile.cards) piles k d h in
     let whole = length-flat_map (λ (pile : Pile). pile.cards) piles in
@@ -164,40 +167,66 @@ join-are n first s w h o c r p q a_s aw ah ao ac ar a_p aq =
     (All-append IsByte r (p ++ q) ar
     (All-append IsByte p q a_p aq)))))))
 
-pub key-are_bytes : (rules : RuleParts) (board : Board) → IsPlayable rules → Belongs rules board → AreBytes (key_bytes rules board)
-key-are_bytes rules board playable belongs =
+-- what keeps each number of a board within a byte
+pub record HasSmallNumbers (rules : RuleParts) (board : Board) : Type 0 where
+  pub redeals_left : board.redeals_left < 256
+  pub faces : IsTrue (list_all (lies_well rules.face) board.piles)
+  pub ranks : HasRanks board
+  pub cards : length (cards_of_piles board.piles) + length (cards_in board.cells) + length (cards_in board.reserve) + length board.stock + length board.waste ≤ 104
+  pub hole : length board.hole ≤ 104
+
+pub small_numbers : (rules : RuleParts) (board : Board) → IsPlayable rules → Belongs rules board → HasSmallNumbers rules board
+small_numbers rules board playable belongs =
     let limits : HasLimits rules = limits_of rules playable in
     let decks : rules.decks ≤ 2 = limits.decks in
-    let good : HasRanks board = ranks-belong rules board limits belongs in
     let cards : length (cards_of_board board) ≤ 52 * rules.decks = cards-few_for_decks rules board limits belongs in
     let parts = board-size board in
     let hole_few = hole-few board in
+    let redeals : most_redeals rules.redeals ≤ 99 = redeals-within rules playable in
+    let redeals_left : board.redeals_left ≤ most_redeals rules.redeals = belongs.redeals_left in
+    record {
+      redeals_left = omega (arith, redeals, redeals_left);
+      faces = belongs.faces;
+      ranks = ranks-belong rules board limits belongs;
+      cards = omega (arith, cards, parts, decks);
+      hole = omega (arith, cards, hole_few, decks);
+    }
+
+-- each number of a key is a byte where those of the board and the heights are
+pub key_with-are_bytes : (rules : RuleParts) (board : Board) (heights : List ℕ) → HasSmallNumbers rules board → AreBytes heights
+    → AreBytes (key_with heights rules board)
+key_with-are_bytes rules board heights small are_heights =
+    let good : HasRanks board = small.ranks in
+    let cards = small.cards in
+    let hole_few = small.hole in
     let stock_size : length (card_bytes board.stock) ≡ length board.stock = length-map board.stock card_byte in
     let waste_size : length (card_bytes board.waste) ≡ length board.waste = length-map board.waste card_byte in
     let cell_size = cells-size board.cells in
     let reserve_size = reserve-size rules.stacked board.reserve in
-    let redeals : most_redeals rules.redeals ≤ 99 = redeals-within rules playable in
-    let redeals_left : board.redeals_left ≤ most_redeals rules.redeals = belongs.redeals_left in
-    let few_piles : length (cards_of_piles board.piles) < 256 = omega (arith, cards, parts, decks) in
+    let few_piles : length (cards_of_piles board.piles) < 256 = omega (arith, cards) in
     let rows : AreBytes (rows_bytes rules board) =
     if-are (is_sequence_goal rules.goal) (concat (sorted_lists (map row_bytes (rows_of rules board))))
     (all-concat (sorted_lists (map row_bytes (rows_of rules board)))
     (sorted-are AreBytes (slice_cmp nat_cmp) (map row_bytes (rows_of rules board))
     (All-map AreBytes row_bytes (rows_of rules board) (λ k d h. row-is_bytes (get_or (rows_of rules board) k d) (good_rows rules board good.slots k d h))))) in
     let piles : AreBytes (concat (piles_bytes rules board)) =
-    all-concat (piles_bytes rules board) (pieces-are_bytes (keeps_pile_order rules board) board.piles (piles-are rules.face board.piles belongs.faces good.piles few_piles)) in
+    all-concat (piles_bytes rules board) (pieces-are_bytes (keeps_pile_order rules board) board.piles (piles-are rules.face board.piles small.faces good.piles few_piles)) in
     let reserve : AreBytes (counted (reserve_bytes rules board)) =
-    counted-are (reserve_bytes rules board) (omega (arith, cards, parts, decks, reserve_size)) (reserve-are rules.stacked (cards_in board.reserve) (good_cards_in board.reserve good.reserve)) in
+    counted-are (reserve_bytes rules board) (omega (arith, cards, reserve_size)) (reserve-are rules.stacked (cards_in board.reserve) (good_cards_in board.reserve good.reserve)) in
     let cells : AreBytes (counted (cell_bytes board)) =
-    counted-are (cell_bytes board) (omega (arith, cards, parts, decks, cell_size)) (reserve-are false (cards_in board.cells) (good_cards_in board.cells good.cells)) in
+    counted-are (cell_bytes board) (omega (arith, cards, cell_size)) (reserve-are false (cards_in board.cells) (good_cards_in board.cells good.cells)) in
     let hole : AreBytes (hole_bytes rules board) =
     if-are (is_hole_goal rules.goal) (length board.hole ∷ entry_byte (top_of board.hole) ∷ [])
-    (All-cons IsByte (length board.hole) (entry_byte (top_of board.hole) ∷ []) (omega (arith, cards, hole_few, decks))
+    (All-cons IsByte (length board.hole) (entry_byte (top_of board.hole) ∷ []) (omega (arith, hole_few))
     (All-cons IsByte (entry_byte (top_of board.hole)) [] (entry-is_byte (top_of board.hole) (top-good board.hole good.hole)) (All-nil IsByte))) in
-    let heights : AreBytes (height_bytes rules board) = if-are (is_foundation_goal rules.goal) (all_heights rules board) (heights-are rules board limits belongs) in
     let waste : AreBytes (counted (card_bytes board.waste)) =
-    counted-are (card_bytes board.waste) (omega (arith, cards, parts, decks, waste_size)) (cards-are_bytes board.waste good.waste) in
+    counted-are (card_bytes board.waste) (omega (arith, cards, waste_size)) (cards-are_bytes board.waste good.waste) in
     let stock : AreBytes (counted (card_bytes board.stock)) =
-    counted-are (card_bytes board.stock) (omega (arith, cards, parts, decks, stock_size)) (cards-are_bytes board.stock good.stock) in
-    join-are board.redeals_left (omega (arith, redeals, redeals_left)) (counted (card_bytes board.stock)) (counted (card_bytes board.waste)) (height_bytes rules board) (hole_bytes rules board)
-    (counted (cell_bytes board)) (counted (reserve_bytes rules board)) (concat (piles_bytes rules board)) (rows_bytes rules board) stock waste heights hole cells reserve piles rows
+    counted-are (card_bytes board.stock) (omega (arith, cards, stock_size)) (cards-are_bytes board.stock good.stock) in
+    join-are board.redeals_left small.redeals_left (counted (card_bytes board.stock)) (counted (card_bytes board.waste)) heights (hole_bytes rules board)
+    (counted (cell_bytes board)) (counted (reserve_bytes rules board)) (concat (piles_bytes rules board)) (rows_bytes rules board) stock waste are_heights hole cells reserve piles rows
+
+pub key-are_bytes : (rules : RuleParts) (board : Board) → IsPlayable rules → Belongs rules board → AreBytes (key_bytes rules board)
+key-are_bytes rules board playable belongs =
+    key_with-are_bytes rules board (height_bytes rules board) (small_numbers rules board playable belongs)
+    (if-are (is_foundation_goal rules.goal) (all_heights rules board) (heights-are rules board (limits_of rules playable) belongs))

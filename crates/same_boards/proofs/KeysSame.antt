@@ -20,11 +20,12 @@ use Rattle.game_rules.specs.Play.{is_empty}
 use Rattle.game_rules.specs.Winning.{row_at, rows_of}
 use Rattle.game_rules.specs.Belonging.{Belongs}
 use Rattle.same_boards.specs.Same.{Same, keeps_pile_order, heights_of_suit}
+use Rattle.same_boards.specs.Colours.{SameCards}
 use Rattle.same_boards.specs.Keys.{sorted_bytes, sorted_lists, card_byte, card_bytes, entry_byte, counted, cards_in, height_bytes, hole_bytes, cell_bytes, reserve_bytes, pile_bytes, piles_bytes, row_bytes, rows_bytes, key_bytes, key_with}
 use Rattle.game_rules.proofs.Limits.{limits_of}
 use Rattle.same_boards.proofs.SameLaws.{same_order}
 use Rattle.same_boards.proofs.SameWins.{row_length, rows_count}
-use Rattle.same_boards.proofs.SameKeys.{SameCards, key-from_same}
+use Rattle.same_boards.proofs.SameKeys.{key-from_same}
 use Rattle.same_boards.proofs.Sorting.{sorted-permutation, permutation-from_sorted}
 use Rattle.game_rules.specs.Position.{HasRanks}
 use Rattle.game_rules.proofs.Ranks.{ranks-belong}

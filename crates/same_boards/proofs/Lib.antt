@@ -14,3 +14,4 @@ pub mod SameAfter
 pub mod KeyBytes
 pub mod BoardCards
 pub mod SameBelongs
+pub mod ColourKeys

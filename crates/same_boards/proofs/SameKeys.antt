@@ -1,5 +1,5 @@
 -- Boards that are the same have one key.
-use Rattle.std.proofs.Common.{◌≡◌, ℕ, ◌<◌, Bool, true, false, List, [], ◌∷◌, ◌++◌, map, length, refl, ap, ap₂, sym, ◌∙◌, arith, lit<}
+use Rattle.std.proofs.Common.{◌≡◌, ℕ, ◌<◌, Bool, true, false, List, [], ◌∷◌, ◌++◌, map, refl, ap, ap₂, sym, ◌∙◌, arith, lit<}
 use Rattle.std.specs.Prelude.{MatchBool, Option, Some, None, if◌then◌else◌}
 use Rattle.std.specs.List.{sum_by, concat}
 use Rattle.std.specs.List.Sorted.{IsPermutation}
@@ -10,24 +10,13 @@ use Rattle.std.proofs.lemmas.List.Sorted.{IsPermutation-map, sum_by-IsPermutatio
 use Rattle.card_piles.specs.declared.Card.{Card}
 use Rattle.game_rules.specs.declared.RuleParts.{RuleParts}
 use Rattle.game_rules.specs.Rules.{is_foundation_goal, is_hole_goal, is_sequence_goal}
-use Rattle.game_rules.specs.Board.{Board, Pile, top_of}
+use Rattle.game_rules.specs.Board.{Board, Pile}
 use Rattle.game_rules.specs.Winning.{rows_of}
 use Rattle.same_boards.specs.Same.{Same, keeps_pile_order, heights_of_suit}
+use Rattle.same_boards.specs.Colours.{SameCards}
 use Rattle.same_boards.specs.Keys.{sorted_bytes, sorted_lists, card_byte, card_bytes, entry_byte, counted, cards_in, height_bytes, hole_bytes, cell_bytes, reserve_bytes, pile_bytes, piles_bytes, row_bytes, rows_bytes, key_bytes, key_with}
-use Rattle.same_boards.proofs.SameLaws.{same_order}
+use Rattle.same_boards.proofs.SameLaws.{same_order, cards_of_same}
 use Rattle.same_boards.proofs.Sorting.{numbers_apart, lists_apart, sorted-same, sorted-from_times, times, is_same, one_if}
-
--- all of being the same but the heights
-pub record SameCards (rules : RuleParts) (a b : Board) : Type 0 where
-  pub stock : a.stock ≡ b.stock
-  pub waste : a.waste ≡ b.waste
-  pub redeals_left : a.redeals_left ≡ b.redeals_left
-  pub hole_size : length a.hole ≡ length b.hole
-  pub hole_top : top_of a.hole ≡ top_of b.hole
-  pub cells : IsPermutation a.cells b.cells
-  pub reserve : MatchBool rules.stacked (a.reserve ≡ b.reserve) (IsPermutation a.reserve b.reserve)
-  pub rows : IsPermutation (rows_of rules a) (rows_of rules b)
-  pub piles : MatchBool (keeps_pile_order rules a) (a.piles ≡ b.piles) (IsPermutation a.piles b.piles)
 
 -- how often a byte stands for the card of an entry
 abbrev entry_times : ℕ → Option Card → ℕ
@@ -98,19 +87,6 @@ key-from_cards rules a b h k same heights =
     let p₂ = ap₂ (λ (cards : List Card) (y : List ℕ). counted (card_bytes cards) ++ y) same.waste p₃ in
     let p₁ = ap₂ (λ (cards : List Card) (y : List ℕ). counted (card_bytes cards) ++ y) same.stock p₂ in
     ap₂ (λ (n : ℕ) (y : List ℕ). n ∷ y) same.redeals_left p₁
-
-pub cards_of_same : (rules : RuleParts) (a b : Board) → Same rules a b → SameCards rules a b
-cards_of_same rules a b same = record {
-  stock = same.stock;
-  waste = same.waste;
-  redeals_left = same.redeals_left;
-  hole_size = same.hole_size;
-  hole_top = same.hole_top;
-  cells = same.cells;
-  reserve = same.reserve;
-  rows = same.rows;
-  piles = same.piles;
-}
 
 -- boards that are the same have one key
 pub key-from_same : (rules : RuleParts) (a b : Board) → Same rules a b → key_bytes rules a ≡ key_bytes rules b

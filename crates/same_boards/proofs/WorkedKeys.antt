@@ -11,6 +11,7 @@ use Rattle.game_rules.specs.Board.{Board}
 use Rattle.game_rules.specs.Conflicts.{IsPlayable}
 use Rattle.game_rules.specs.Belonging.{Belongs, copies_on, copies_due}
 use Rattle.same_boards.specs.Keys.{key_bytes}
+use Rattle.same_boards.specs.Colours.{colour_key_bytes}
 use Rattle.same_boards.proofs.WorkedRows.{two_ranks, board_of, up, club, ace, ace_under_two}
 
 -- the same two piles in the other order
@@ -94,9 +95,16 @@ ace_under_two-belongs = record {
   cards = ace_under_two-cards;
 }
 
--- spades in the place of clubs: another key
+-- the black foundations' heights come first
+pub ace_under_two-colours : colour_key_bytes (two_ranks 2) ace_under_two ≡ 0 ∷ 0 ∷ 0 ∷ 0 ∷ 2 ∷ 2 ∷ 2 ∷ 0 ∷ 0 ∷ 0 ∷ 0 ∷ 2 ∷ 0 ∷ 1 ∷ 2 ∷ []
+ace_under_two-colours = refl
+
+-- spades in the place of clubs: another key, and the same colours
 abbrev spades_left : Board
 spades_left = board_of (up (ace Spades ∷ record (ace Spades) { rank = 2 } ∷ []) ∷ up [] ∷ []) (2 ∷ 2 ∷ 2 ∷ 0 ∷ [])
 
 pub other_suit-key : key_bytes (two_ranks 2) spades_left ≡ 0 ∷ 0 ∷ 0 ∷ 2 ∷ 2 ∷ 2 ∷ 0 ∷ 0 ∷ 0 ∷ 0 ∷ 0 ∷ 2 ∷ 0 ∷ 40 ∷ 41 ∷ []
 other_suit-key = refl
+
+pub same_colours : colour_key_bytes (two_ranks 2) spades_left ≡ colour_key_bytes (two_ranks 2) ace_under_two
+same_colours = refl
