@@ -15,6 +15,8 @@ mod going;
 pub mod laws;
 mod listing;
 mod space;
+#[cfg(test)]
+mod space_tests;
 
 pub use going::StepUndo;
 pub use space::PlainSpace;
