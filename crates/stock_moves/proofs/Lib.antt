@@ -1,0 +1,4 @@
+pub mod WasteCarries
+pub mod Going
+pub mod Returning
+pub mod Expanding

@@ -1,0 +1,101 @@
+-- The legal carries from the waste, place by place.
+use Rattle.std.proofs.Common.{◌≡◌, ℕ, Bool, true, false, List, [], ◌∷◌, ◌++◌, map, refl, ap, sym, ◌∙◌, append-nil}
+use Rattle.std.specs.Prelude.{cond}
+use Rattle.std.specs.List.{filter, flat_map, range_with_len}
+use Rattle.std.proofs.lemmas.List.{map-append}
+use Rattle.std.proofs.lemmas.List.Elements.{filter-append}
+use Rattle.std.proofs.lemmas.Grind.{flat_map-append}
+use Rattle.game_rules.specs.declared.RuleParts.{RuleParts}
+use Rattle.game_rules.specs.declared.Move.{Move}
+use Rattle.game_rules.specs.declared.Move.TheVariants.{Carry, Deal, Redeal}
+use Rattle.game_rules.specs.declared.Place.{Place}
+use Rattle.game_rules.specs.declared.Place.TheVariants.{Tableau, Cell, Reserve, Waste, Foundation, Slot}
+use Rattle.game_rules.specs.Board.{Board}
+use Rattle.game_rules.specs.Play.{is_legal_move}
+use Rattle.game_rules.specs.Order.{entry_count, legal_moves, sources, targets}
+use Rattle.game_rules.proofs.Listing.{filter-flat_map, legal_between, legal_to, legal_moves-by_place}
+use Rattle.stock_steps.specs.declared.Step.{Step}
+use Rattle.stock_steps.specs.Steps.{is_from_waste, steps_from, waste_carries}
+use Rattle.stock_moves.specs.Onto.{steps_onto}
+
+-- a move that fails the one test is passed by, whatever the other says
+passed_by : (p : Move → Bool) (t : Bool) (m : Move) (ms : List Move) → p m ≡ false → filter p ms ≡ [] → filter p (cond t (m ∷ ms) ms) ≡ []
+passed_by p true m ms fails none = rw fails none
+passed_by p false m ms fails none = none
+
+none_between : (rules : RuleParts) (board : Board) (to from : Place) → ((n : ℕ) → is_from_waste (Carry from to n) ≡ false)
+    → (counts : List ℕ) → filter is_from_waste (filter (is_legal_move rules board) (map (λ count. Carry from to count) counts)) ≡ []
+none_between rules board to from fails [] = refl
+none_between rules board to from fails (n ∷ counts) =
+    passed_by is_from_waste (is_legal_move rules board (Carry from to n)) (Carry from to n)
+    (filter (is_legal_move rules board) (map (λ count. Carry from to count) counts)) (fails n) (none_between rules board to from fails counts)
+
+-- the carries from the waste between two places
+abbrev waste_between : RuleParts → Board → Place → Place → List Move
+waste_between rules board to from = filter is_from_waste (legal_between rules board to from)
+
+flat_map-none : (f : Place → List Move) (kind : ℕ → Place) (ns : List ℕ) → ((n : ℕ) → f (kind n) ≡ []) → flat_map f (map kind ns) ≡ []
+flat_map-none f kind [] none = refl
+flat_map-none f kind (n ∷ ns) none = rw (none n) (flat_map-none f kind ns none)
+
+past : (f : Place → List Move) (kind : ℕ → Place) (ns : List ℕ) (rest : List Place) → ((n : ℕ) → f (kind n) ≡ [])
+    → flat_map f (map kind ns ++ rest) ≡ flat_map f rest
+past f kind ns rest none =
+    flat_map-append f (map kind ns) rest ∙ ap (λ (xs : List Move). xs ++ flat_map f rest) (flat_map-none f kind ns none)
+
+-- of the sources the waste alone is left
+waste_alone : (rules : RuleParts) (board : Board) (to : Place)
+    → flat_map (waste_between rules board to) (sources rules board) ≡ waste_between rules board to Waste
+waste_alone rules board to =
+    let f : Place → List Move = waste_between rules board to in
+    past f Tableau _ _ (λ n. none_between rules board to (Tableau n) (λ k. refl) _)
+    ∙ past f Cell _ _ (λ n. none_between rules board to (Cell n) (λ k. refl) _)
+    ∙ past f Reserve _ _ (λ n. none_between rules board to (Reserve n) (λ k. refl) _)
+    ∙ ap (λ (xs : List Move). f Waste ++ xs)
+    (past f Foundation _ _ (λ n. none_between rules board to (Foundation n) (λ k. refl) _)
+    ∙ flat_map-none f Slot _ (λ n. none_between rules board to (Slot n) (λ k. refl) _))
+    ∙ append-nil (f Waste)
+
+kept_one : (to : Place) (t : Bool) → filter is_from_waste (cond t (Carry Waste to 1 ∷ []) []) ≡ cond t (Carry Waste to 1 ∷ []) []
+kept_one to true = refl
+kept_one to false = refl
+
+waste_to : (rules : RuleParts) (board : Board) (to : Place)
+    → filter is_from_waste (legal_to rules board (sources rules board) to) ≡ filter (is_legal_move rules board) (Carry Waste to 1 ∷ [])
+waste_to rules board to =
+    filter-flat_map is_from_waste (legal_between rules board to) (sources rules board)
+    ∙ waste_alone rules board to
+    ∙ kept_one to (is_legal_move rules board (Carry Waste to 1))
+
+flat_map-same : (f g : Place → List Move) (xs : List Place) → ((x : Place) → f x ≡ g x) → flat_map f xs ≡ flat_map g xs
+flat_map-same f g [] same = refl
+flat_map-same f g (x ∷ xs) same =
+    ap (λ (ys : List Move). ys ++ flat_map f xs) (same x) ∙ ap (λ (ys : List Move). g x ++ ys) (flat_map-same f g xs same)
+
+steps_from-flat_map : (deals : ℕ) (f : Place → List Move) (xs : List Place)
+    → steps_from deals (flat_map f xs) ≡ flat_map (λ x. steps_from deals (f x)) xs
+steps_from-flat_map deals f [] = refl
+steps_from-flat_map deals f (x ∷ xs) =
+    map-append (λ (move : Move). record { deals = deals; last = move }) (f x) (flat_map f xs)
+    ∙ ap (λ (ys : List Step). steps_from deals (f x) ++ ys) (steps_from-flat_map deals f xs)
+
+no_stock_move : (rules : RuleParts) (board : Board) → filter is_from_waste (filter (is_legal_move rules board) (Deal ∷ Redeal ∷ [])) ≡ []
+no_stock_move rules board =
+    passed_by is_from_waste (is_legal_move rules board Deal) Deal (filter (is_legal_move rules board) (Redeal ∷ [])) refl
+    (passed_by is_from_waste (is_legal_move rules board Redeal) Redeal [] refl refl)
+
+-- the carries from the waste are those onto each place in turn
+pub waste_carries-onto : (rules : RuleParts) (board : Board) (deals : ℕ)
+    → steps_from deals (waste_carries rules board) ≡ flat_map (steps_onto rules board deals) (targets rules board)
+waste_carries-onto rules board deals =
+    let carries : List Move = flat_map (legal_to rules board (sources rules board)) (targets rules board) in
+    let kept : waste_carries rules board ≡ flat_map (λ to. filter (is_legal_move rules board) (Carry Waste to 1 ∷ [])) (targets rules board) =
+    ap (filter is_from_waste) (legal_moves-by_place rules board)
+    ∙ filter-append is_from_waste carries (filter (is_legal_move rules board) (Deal ∷ Redeal ∷ []))
+    ∙ ap (λ (xs : List Move). filter is_from_waste carries ++ xs) (no_stock_move rules board)
+    ∙ append-nil (filter is_from_waste carries)
+    ∙ filter-flat_map is_from_waste (legal_to rules board (sources rules board)) (targets rules board)
+    ∙ flat_map-same (λ to. filter is_from_waste (legal_to rules board (sources rules board) to))
+    (λ to. filter (is_legal_move rules board) (Carry Waste to 1 ∷ [])) (targets rules board) (waste_to rules board) in
+    ap (steps_from deals) kept
+    ∙ steps_from-flat_map deals (λ to. filter (is_legal_move rules board) (Carry Waste to 1 ∷ [])) (targets rules board)

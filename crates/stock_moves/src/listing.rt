@@ -1,0 +1,105 @@
+//! The list of stock steps.
+//!
+//! The stock is dealt out move by move, and each board on the way gives its carries from the waste.
+//! Where redeals are unlimited, the run ends at the first board that comes again: stock moves only
+//! shift the border between stock and waste, so the length of the stock tells the board.
+ghost use Rattle.std.specs.Prelude.{◌≡◌, ℕ, ◌↔◌, ◌++◌, IsTrue, OnOk, OnErr};
+ghost use Rattle.game_rules.specs.Belonging.{Belongs};
+ghost use Rattle.game_rules.specs.Rules.{deals_to_waste};
+ghost use Rattle.game_rules.specs.StockMoves.{after_stock_moves};
+ghost use Rattle.packed_state.specs.Packed.{board_of, is_stacked};
+ghost use Rattle.stock_steps.specs.Steps.{stock_steps};
+ghost use Rattle.stock_moves.specs.GoesOn.{GoesOn, next_stock};
+ghost use Rattle.stock_moves.specs.Onto.{StartsWith};
+
+use crate::onto::push_waste_carries;
+use card_piles::NoMemory;
+use game_model::Rules;
+use game_rules::{Move, Redeals, Target};
+use packed_state::{Packed, Spot};
+use std::alloc::{AllocError, Global};
+use stock_steps::Step;
+
+/// The number of cards in the stock after the next stock move, if there is one.
+fn next_stock(rules: &Rules, packed: &Packed) -> Option<u8>
+    requires belongs { Belongs rules.now (board_of packed.now) }
+    requires to_waste { IsTrue (deals_to_waste rules.now.target) }
+    ensures { result ≡ next_stock rules.now (board_of packed.now) }
+{
+    let stock = packed.size(Spot::Stock);
+    if stock != 0 {
+        return Some(stock.saturating_sub(rules.draw()));
+    }
+    if packed.is_legal(rules, Move::Redeal) {
+        return Some(packed.size(Spot::Waste));
+    }
+    None
+}
+
+/// Whether a stock move leads to a board that the run does not have. `first` is the number of cards
+/// in the first stock, and `emptied` says whether a stock of the run was empty.
+fn goes_on(rules: &Rules, packed: &Packed, first: u8, emptied: bool) -> bool
+    requires belongs { Belongs rules.now (board_of packed.now) }
+    requires to_waste { IsTrue (deals_to_waste rules.now.target) }
+    ensures { IsTrue result ↔ GoesOn rules.now (board_of packed.now) first emptied }
+{
+    let Some(next) = next_stock(rules, packed) else {
+        return false;
+    };
+    match rules.redeals() {
+        Redeals::Times(_) => true,
+        Redeals::Unlimited => next != first && !(emptied && next == 0),
+    }
+}
+
+/// Appends the stock steps, and makes stock moves on the way.
+fn list_along(rules: &Rules, packed: &mut Packed, out: &mut Vec<Step>) -> Result<(), AllocError>
+    requires belongs { Belongs rules.now (board_of packed.old) }
+    requires to_waste { IsTrue (deals_to_waste rules.now.target) }
+    ensures listed { OnOk result (out.new.items ≡ out.old.items ++ stock_steps rules.now (board_of packed.old)) }
+    ensures begun { OnErr result (StartsWith out.new.items out.old.items) }
+    ensures moved { (k : ℕ) × (board_of packed.new ≡ after_stock_moves rules.now k (board_of packed.old)) }
+    ensures stacked { is_stacked packed.new ≡ is_stacked packed.old }
+{
+    let first = packed.size(Spot::Stock);
+    let mut emptied = first == 0;
+    let mut deals = 0;
+    push_waste_carries(rules, packed, deals, out)?;
+    while goes_on(rules, packed, first, emptied) {
+        let _ = packed.run_stock(rules, 1);
+        emptied = emptied || packed.size(Spot::Stock) == 0;
+        deals += 1;
+        push_waste_carries(rules, packed, deals, out)?;
+    }
+    Ok(())
+}
+
+/// Appends each stock step of the board once, by the number of stock moves and then in the order of
+/// moves. The packed board is the earlier one afterwards. After a refusal `out` is as before too.
+pub fn list_stock_steps(
+    _alloc: Global,
+    rules: &Rules,
+    packed: &mut Packed,
+    out: &mut Vec<Step>,
+) -> Result<(), NoMemory>
+    requires { Belongs rules.now (board_of packed.old) }
+    ensures listed { OnOk result (out.new.items ≡ out.old.items ++ stock_steps rules.now (board_of packed.old)) }
+    ensures refused { OnErr result (out.new.items ≡ out.old.items) }
+    ensures as_before { packed.new ≡ packed.old }
+{
+    if rules.target() != Target::ToWaste {
+        return Ok(());
+    }
+    let size = out.len();
+    // No stock move yet: this notes where the stock ends.
+    let undo = packed.run_stock(rules, 0);
+    let listed = list_along(rules, packed, out);
+    packed.unrun_stock(undo);
+    match listed {
+        Ok(()) => Ok(()),
+        Err(refused) => {
+            out.truncate(size);
+            Err(NoMemory::from(refused))
+        }
+    }
+}

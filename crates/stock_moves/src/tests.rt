@@ -1,0 +1,1 @@
+//! Stock steps of small games.

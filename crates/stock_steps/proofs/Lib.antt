@@ -1,0 +1,14 @@
+pub mod Members
+pub mod LegalListed
+pub mod StockKin
+pub mod StockRuns
+pub mod StockList
+pub mod StockCommutes
+pub mod Descent
+pub mod Lines
+pub mod StepLines
+pub mod StepsOnce
+pub mod Pigeons
+pub mod RepeatTest
+pub mod StockLaws
+pub mod StockRows
