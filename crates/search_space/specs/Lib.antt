@@ -1,3 +1,4 @@
 pub mod Well
 pub mod Game
 pub mod Plain
+pub mod Narrow
