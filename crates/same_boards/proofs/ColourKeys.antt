@@ -225,7 +225,7 @@ faces-coloured face [] = refl
 faces-coloured face (pile ∷ piles) =
     ap₂ (λ (a b : Bool). a && b) (face-coloured face pile) (faces-coloured face piles)
 
-numbers-coloured : (rules : RuleParts) (board : Board) → HasSmallNumbers rules board → HasSmallNumbers rules (coloured_board board)
+pub numbers-coloured : (rules : RuleParts) (board : Board) → HasSmallNumbers rules board → HasSmallNumbers rules (coloured_board board)
 numbers-coloured rules board small =
     let stock : length (map coloured board.stock) ≡ length board.stock = length-map board.stock coloured in
     let waste : length (map coloured board.waste) ≡ length board.waste = length-map board.waste coloured in

@@ -127,7 +127,7 @@ face_down-small : (face : Face) (pile : Pile) → IsTrue (lies_well face pile) �
 face_down-small AllUp pile h = let none : pile.face_down ≡ 0 = eqb-true pile.face_down 0 h in omega arith
 face_down-small TopUp pile h = let few : pile.face_down ≤ length pile.cards - 1 = leb-true pile.face_down (length pile.cards - 1) h in omega arith
 
-pile-small : (piles : List Pile) (k : ℕ) (d : Pile) → k < length piles → length (get_or piles k d).cards ≤ length (cards_of_piles piles)
+pub pile-small : (piles : List Pile) (k : ℕ) (d : Pile) → k < length piles → length (get_or piles k d).cards ≤ length (cards_of_piles piles)
 pile-small piles k d h =
     let one = get_or-le-sum_by (λ (pile : Pile). length pile.cards) piles k d h in
     let whole = length-flat_map (λ (pile : Pile). pile.cards) piles in
