@@ -3,11 +3,10 @@ use Rattle.std.specs.Prelude.{nat_eq}
 use Rattle.std.specs.Cmp.Lexicographic.{pointwise}
 use Rattle.trails.specs.Game.{Game}
 use Rattle.game_rules.specs.declared.RuleParts.{RuleParts}
-use Rattle.game_rules.specs.declared.Move.{Move}
 use Rattle.game_rules.specs.Conflicts.{IsPlayable}
 use Rattle.game_rules.specs.Board.{Board}
-use Rattle.game_rules.specs.Play.{after}
-use Rattle.safe_moves.specs.Steps.{steps}
+use Rattle.stock_steps.specs.declared.Step.{Step}
+use Rattle.stock_steps.specs.Steps.{after_step, steps}
 use Rattle.game_rules.specs.Winning.{Won}
 use Rattle.game_rules.specs.Belonging.{Belongs}
 use Rattle.same_boards.specs.Same.{Same}
@@ -18,11 +17,11 @@ use Rattle.search_space.proofs.Alike.{keys-compared}
 use Rattle.search_space.proofs.Reached.{reached-belongs}
 
 -- the game as a search plays it: boards with equal keys count as the same
-abbrev pub keyed_game : RuleParts → Game Board Move
+abbrev pub keyed_game : RuleParts → Game Board Step
 keyed_game rules = game_of (play_of rules) (pointwise nat_eq)
 
 pub agrees : (rules : RuleParts) (start : Board) → IsPlayable rules → Belongs rules start
-    → Agree (steps rules) (after rules) (Won rules) (Won rules) (keyed_game rules).Same (Same rules) start
+    → Agree (steps rules) (after_step rules) (Won rules) (Won rules) (keyed_game rules).Same (Same rules) start
 agrees rules start playable belongs =
     let is = reached-belongs rules (Won rules) (keyed_game rules).Same playable start in
     record {

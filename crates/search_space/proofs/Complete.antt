@@ -7,34 +7,37 @@ use Rattle.game_rules.specs.declared.RuleParts.{RuleParts}
 use Rattle.game_rules.specs.declared.Move.{Move}
 use Rattle.game_rules.specs.Conflicts.{IsPlayable}
 use Rattle.game_rules.specs.Board.{Board}
-use Rattle.game_rules.specs.Play.{after}
 use Rattle.game_rules.specs.Winning.{Won, Line, Wins}
 use Rattle.game_rules.specs.Belonging.{Belongs}
-use Rattle.safe_moves.specs.Steps.{steps}
-use Rattle.safe_moves.proofs.StepsWin.{steps-nearer}
+use Rattle.stock_steps.specs.declared.Step.{Step}
+use Rattle.stock_steps.specs.Steps.{after_step, steps}
+use Rattle.stock_steps.specs.StockSteps.{HasWinningStep}
+use Rattle.stock_steps.proofs.StockLaws.{lose_no_win}
 use Rattle.same_boards.specs.Same.{Same}
 use Rattle.same_boards.proofs.SameWins.{same-wins}
 use Rattle.dfs_core.specs.Play.{game_of}
 use Rattle.search_space.specs.Game.{plain_game}
 use Rattle.search_space.specs.Plain.{play_of}
 use Rattle.search_space.proofs.Alike.{keys-compared}
-use Rattle.search_space.proofs.Reached.{by_moves, reached-belongs}
+use Rattle.search_space.proofs.Reached.{by_steps, reached-belongs}
 
 won-at_once : (rules : RuleParts) (board last : Board) (moves : List Move) → length moves ≤ 0 → Line rules board moves last → Won rules last → Won rules board
 won-at_once rules board last [] short line won = subst (Won rules) line won
 won-at_once rules board last (move ∷ moves) short line won = absurd (omega (arith, short))
 
 nearer-by_steps : (rules : RuleParts) (n : ℕ) (board : Board) → IsPlayable rules → Belongs rules board → (¬ Won rules board)
-    → Wins rules (suc n) board → (t : Move) × Contains (steps rules board) t × Wins rules n (after rules board t)
+    → Wins rules (suc n) board → (t : Step) × Contains (steps rules board) t × Wins rules n (after_step rules board t)
 nearer-by_steps rules n board playable belongs not_won wins =
-    steps-nearer rules board n playable belongs not_won (subst (λ (k : ℕ). Wins rules k board) (omega arith) wins)
+    let found : HasWinningStep rules n board =
+    lose_no_win rules n board playable belongs not_won (subst (λ (k : ℕ). Wins rules k board) (omega arith) wins) in
+    (found.step, found.listed, found.wins)
 
 -- a game of these steps is complete where no boards count as the same but those that are
 complete-up_to_same : (rules : RuleParts) (Counts : Board → Board → Type 0) (start : Board) → IsPlayable rules → Belongs rules start
     → ((a b : Board) → Belongs rules a → Belongs rules b → Counts a b → Same rules a b)
-    → IsComplete (by_moves rules (Won rules) Counts) (Wins rules) start
+    → IsComplete (by_steps rules (Won rules) Counts) (Wins rules) start
 complete-up_to_same rules Counts start playable belongs are =
-    let is : (board : Board) → IsReached (by_moves rules (Won rules) Counts) start board → Belongs rules board =
+    let is : (board : Board) → IsReached (by_steps rules (Won rules) Counts) start board → Belongs rules board =
     λ board reached. reached-belongs rules (Won rules) Counts playable start board belongs reached in
     record {
       none = λ s reached wins. won-at_once rules s wins.end wins.moves wins.short wins.line wins.won;

@@ -1,3 +1,4 @@
+pub mod Singles
 pub mod Whole
 pub mod WellBoards
 pub mod Returning
@@ -5,3 +6,7 @@ pub mod Reached
 pub mod Alike
 pub mod Complete
 pub mod Agreeing
+pub mod NarrowSteps
+pub mod NarrowReached
+pub mod NarrowAlike
+pub mod NarrowReturning

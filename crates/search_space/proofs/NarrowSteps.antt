@@ -40,7 +40,7 @@ forced-made rules board None others legal made step here = made step here
 forced-made rules board (Some move) others legal made step here =
     let single : Step = record { deals = 0; last = move } in
     elim (Contains-cases step single [] here) [
-      | inl same ↦ subst (CanBeMade rules board) (sym same) (made-at_once rules board single refl (legal move refl))
+      | inl same ↦ subst (CanBeMade rules board) same (made-at_once rules board single refl (legal move refl))
       | inr none ↦ absurd (omega (arith, none.1))
     ]
 

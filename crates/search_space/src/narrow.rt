@@ -71,6 +71,9 @@ fn list_narrow_steps(
     ensures listed { OnOk result (out.new.items ≡ out.old.items ++ narrow_steps rules.now way (board_of packed.old)) }
     ensures as_before { packed.new ≡ packed.old }
 {
+    if matches!(way, Streamliner::SuitSymmetry) {
+        return list_steps(alloc, rules, packed, out);
+    }
     let mut moves = Vec::new(alloc);
     if packed.list_moves(alloc, rules, &mut moves).is_err() {
         return Err(NoMemory);

@@ -8,18 +8,19 @@ ghost use Rattle.dfs_core.specs.Play.{game_of};
 ghost use Rattle.std.specs.Cmp.Lexicographic.{pointwise};
 ghost use Rattle.search_space.specs.Plain.{play_of, before_of};
 
+use crate::going::{StepUndo, back_step, go_step};
 use crate::listing::list_steps;
 use dfs_core::Space;
 use game_model::{Board, Rules};
-use game_rules::Move;
-use packed_state::{Packed, Undo};
+use packed_state::Packed;
 use pile_symmetry::{Key, key_of};
 use std::alloc::Global;
 use std::marker::Model;
+use stock_moves::Step;
 use transposition::NoMemory;
 
 /// A packed board that belongs to its rules. Its steps are its first safe move alone, if it has one, else every
-/// legal move.
+/// legal move, where stock moves to the waste are joined with the carry that follows them.
 #[derive(Drop)]
 pub struct PlainSpace<'a> {
     rules: &'a Rules,
@@ -59,9 +60,9 @@ impl<'a> PlainSpace<'a> {
 impl<'a> Space for PlainSpace<'a> {
     type Key = Key;
 
-    type Step = Move;
+    type Step = Step;
 
-    type Undo = Undo;
+    type Undo = StepUndo;
 
     type State = Board;
 
@@ -73,16 +74,16 @@ impl<'a> Space for PlainSpace<'a> {
 
     ghost wins = { λ s n board. Wins s.rules n board };
 
-    fn steps(&mut self, alloc: Global, out: &mut Vec<Move>) -> Result<(), NoMemory> {
-        list_steps(alloc, self.rules, &self.packed, out)
+    fn steps(&mut self, alloc: Global, out: &mut Vec<Step>) -> Result<(), NoMemory> {
+        list_steps(alloc, self.rules, &mut self.packed, out)
     }
 
-    fn go(&mut self, step: Move) -> Undo {
-        self.packed.go(self.rules, step)
+    fn go(&mut self, step: Step) -> StepUndo {
+        go_step(self.rules, &mut self.packed, step)
     }
 
-    fn back(&mut self, undo: Undo) {
-        self.packed.back(undo);
+    fn back(&mut self, undo: StepUndo) {
+        back_step(&mut self.packed, undo);
     }
 
     fn is_won(&self) -> bool {

@@ -1,4 +1,4 @@
 pub mod WasteCarries
 pub mod Going
 pub mod Returning
-pub mod Expanding
+pub mod StepMoves

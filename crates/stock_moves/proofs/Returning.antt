@@ -1,6 +1,6 @@
 -- The way back over stock moves: the notes of where the stock ended determine the packed board, whatever stock moves came after.
-use Rattle.std.proofs.Common.{◌≡◌, ℕ, Bool, List, ◌&&◌, length, take, drop, reverse, refl, ap, sym, ◌∙◌, subst, Some, None, IsTrue}
-use Rattle.std.specs.Prelude.{Option, nat_le, if◌then◌else◌}
+use Rattle.std.proofs.Common.{◌≡◌, ℕ, Bool, List, ◌&&◌, length, take, drop, reverse, ap, sym, ◌∙◌, subst, Some, None, IsTrue}
+use Rattle.std.specs.Prelude.{nat_le, if◌then◌else◌}
 use Rattle.card_piles.specs.declared.Card.{Card}
 use Rattle.game_rules.specs.declared.RuleParts.{RuleParts}
 use Rattle.game_rules.specs.Rules.{deals_to_waste}

@@ -1,5 +1,5 @@
 -- The legal carries from the waste, place by place.
-use Rattle.std.proofs.Common.{◌≡◌, ℕ, Bool, true, false, List, [], ◌∷◌, ◌++◌, map, refl, ap, sym, ◌∙◌, append-nil}
+use Rattle.std.proofs.Common.{◌≡◌, ℕ, Bool, true, false, List, [], ◌∷◌, ◌++◌, map, length, refl, ap, ◌∙◌, append-nil}
 use Rattle.std.specs.Prelude.{cond}
 use Rattle.std.specs.List.{filter, flat_map, range_with_len}
 use Rattle.std.proofs.lemmas.List.{map-append}
@@ -11,8 +11,9 @@ use Rattle.game_rules.specs.declared.Move.TheVariants.{Carry, Deal, Redeal}
 use Rattle.game_rules.specs.declared.Place.{Place}
 use Rattle.game_rules.specs.declared.Place.TheVariants.{Tableau, Cell, Reserve, Waste, Foundation, Slot}
 use Rattle.game_rules.specs.Board.{Board}
+use Rattle.game_rules.specs.Taking.{most_taken}
 use Rattle.game_rules.specs.Play.{is_legal_move}
-use Rattle.game_rules.specs.Order.{entry_count, legal_moves, sources, targets}
+use Rattle.game_rules.specs.Order.{entry_count, sources, targets}
 use Rattle.game_rules.proofs.Listing.{filter-flat_map, legal_between, legal_to, legal_moves-by_place}
 use Rattle.stock_steps.specs.declared.Step.{Step}
 use Rattle.stock_steps.specs.Steps.{is_from_waste, steps_from, waste_carries}
@@ -38,23 +39,23 @@ flat_map-none : (f : Place → List Move) (kind : ℕ → Place) (ns : List ℕ)
 flat_map-none f kind [] none = refl
 flat_map-none f kind (n ∷ ns) none = rw (none n) (flat_map-none f kind ns none)
 
-past : (f : Place → List Move) (kind : ℕ → Place) (ns : List ℕ) (rest : List Place) → ((n : ℕ) → f (kind n) ≡ [])
-    → flat_map f (map kind ns ++ rest) ≡ flat_map f rest
-past f kind ns rest none =
-    flat_map-append f (map kind ns) rest ∙ ap (λ (xs : List Move). xs ++ flat_map f rest) (flat_map-none f kind ns none)
-
 -- of the sources the waste alone is left
 waste_alone : (rules : RuleParts) (board : Board) (to : Place)
     → flat_map (waste_between rules board to) (sources rules board) ≡ waste_between rules board to Waste
 waste_alone rules board to =
     let f : Place → List Move = waste_between rules board to in
-    past f Tableau _ _ (λ n. none_between rules board to (Tableau n) (λ k. refl) _)
-    ∙ past f Cell _ _ (λ n. none_between rules board to (Cell n) (λ k. refl) _)
-    ∙ past f Reserve _ _ (λ n. none_between rules board to (Reserve n) (λ k. refl) _)
-    ∙ ap (λ (xs : List Move). f Waste ++ xs)
-    (past f Foundation _ _ (λ n. none_between rules board to (Foundation n) (λ k. refl) _)
-    ∙ flat_map-none f Slot _ (λ n. none_between rules board to (Slot n) (λ k. refl) _))
-    ∙ append-nil (f Waste)
+    let piles : flat_map f (map Tableau (range_with_len 0 (length board.piles))) ≡ [] =
+    flat_map-none f Tableau (range_with_len 0 (length board.piles))
+    (λ n. none_between rules board to (Tableau n) (λ k. refl) (range_with_len 1 (most_taken rules board (Tableau n)))) in
+    let cells : flat_map f (map Cell (range_with_len 0 (length board.cells))) ≡ [] =
+    flat_map-none f Cell (range_with_len 0 (length board.cells)) (λ n. none_between rules board to (Cell n) (λ k. refl) (1 ∷ [])) in
+    let reserve : flat_map f (map Reserve (range_with_len 0 (entry_count rules board))) ≡ [] =
+    flat_map-none f Reserve (range_with_len 0 (entry_count rules board)) (λ n. none_between rules board to (Reserve n) (λ k. refl) (1 ∷ [])) in
+    let foundations : flat_map f (map Foundation (range_with_len 0 (length board.heights))) ≡ [] =
+    flat_map-none f Foundation (range_with_len 0 (length board.heights)) (λ n. none_between rules board to (Foundation n) (λ k. refl) (1 ∷ [])) in
+    let slots : flat_map f (map Slot (range_with_len 0 (length board.slots))) ≡ [] =
+    flat_map-none f Slot (range_with_len 0 (length board.slots)) (λ n. none_between rules board to (Slot n) (λ k. refl) (1 ∷ [])) in
+    simp (flat_map-append, piles, cells, reserve, foundations, slots, append-nil) refl
 
 kept_one : (to : Place) (t : Bool) → filter is_from_waste (cond t (Carry Waste to 1 ∷ []) []) ≡ cond t (Carry Waste to 1 ∷ []) []
 kept_one to true = refl

@@ -1,5 +1,5 @@
 -- Whether a run of stock moves goes on, told by the lengths of its stocks.
-use Rattle.std.specs.Prelude.{◌≡◌, ◌≢◌, ℕ, Bool, List, [], length, Option, IsTrue}
+use Rattle.std.specs.Prelude.{◌≢◌, ℕ, Bool, [], length, Option, IsTrue}
 use Rattle.std.specs.Option.{option_map}
 use Rattle.game_rules.specs.declared.RuleParts.{RuleParts}
 use Rattle.game_rules.specs.Rules.{is_unlimited}

@@ -1,5 +1,5 @@
 -- The legal carries from the waste to one place.
-use Rattle.std.specs.Prelude.{◌≡◌, ℕ, List, [], ◌∷◌, length, take}
+use Rattle.std.specs.Prelude.{ℕ, List, [], ◌∷◌}
 use Rattle.std.specs.List.{filter}
 use Rattle.game_rules.specs.declared.RuleParts.{RuleParts}
 use Rattle.game_rules.specs.declared.Move.TheVariants.{Carry}
@@ -22,7 +22,3 @@ place_in Cells i = Cell i
 -- the carry from the waste to a place as a step after so many stock moves, where it is legal
 abbrev pub steps_onto : RuleParts → Board → ℕ → Place → List Step
 steps_onto rules board deals to = steps_from deals (filter (is_legal_move rules board) (Carry Waste to 1 ∷ []))
-
--- the one list begins with the other
-abbrev pub StartsWith : {A : Type 0} → List A → List A → Type 0
-StartsWith xs start = take (length start) xs ≡ start

@@ -3,7 +3,7 @@ ghost use Rattle.std.specs.Prelude.{◌≡◌, ◌++◌, OnOk, OnErr};
 ghost use Rattle.game_rules.specs.Belonging.{Belongs};
 ghost use Rattle.packed_state.specs.Packed.{board_of};
 ghost use Rattle.stock_steps.specs.Steps.{CanBeMade, expand, stock_moves};
-ghost use Rattle.stock_moves.specs.Onto.{StartsWith};
+ghost use Rattle.legal_moves.specs.Offers.{StartsWith};
 
 use card_piles::NoMemory;
 use game_model::Rules;
@@ -24,6 +24,8 @@ fn push_moves(
     ensures expanded { OnOk result (out.new.items ≡ out.old.items ++ expand rules.now (board_of before.now) step) }
     ensures begun { OnErr result (StartsWith out.new.items out.old.items) }
 {
+    // This call brings that the rules are playable, and so that stock and waste have few cards.
+    let _ = rules.parts();
     let cards = before.size(Spot::Stock) + before.size(Spot::Waste);
     let mut stock = before.size(Spot::Stock);
     for made in 0..step.deals {

@@ -3,14 +3,14 @@
 //! The stock is dealt out move by move, and each board on the way gives its carries from the waste.
 //! Where redeals are unlimited, the run ends at the first board that comes again: stock moves only
 //! shift the border between stock and waste, so the length of the stock tells the board.
-ghost use Rattle.std.specs.Prelude.{◌≡◌, ℕ, ◌↔◌, ◌++◌, IsTrue, OnOk, OnErr};
+ghost use Rattle.std.specs.Prelude.{◌≡◌, ◌≢◌, ℕ, ◌↔◌, ◌++◌, IsTrue, OnOk, OnErr};
 ghost use Rattle.game_rules.specs.Belonging.{Belongs};
 ghost use Rattle.game_rules.specs.Rules.{deals_to_waste};
 ghost use Rattle.game_rules.specs.StockMoves.{after_stock_moves};
 ghost use Rattle.packed_state.specs.Packed.{board_of, is_stacked};
 ghost use Rattle.stock_steps.specs.Steps.{stock_steps};
 ghost use Rattle.stock_moves.specs.GoesOn.{GoesOn, next_stock};
-ghost use Rattle.stock_moves.specs.Onto.{StartsWith};
+ghost use Rattle.legal_moves.specs.Offers.{StartsWith};
 
 use crate::onto::push_waste_carries;
 use card_piles::NoMemory;
@@ -36,6 +36,16 @@ fn next_stock(rules: &Rules, packed: &Packed) -> Option<u8>
     None
 }
 
+/// Whether the length of a stock is other than the first one, and not 0 after an empty stock.
+fn is_other_length(next: u8, first: u8, emptied: bool) -> bool
+    ensures { IsTrue result ↔ ((next ≢ first) × (IsTrue emptied → next ≢ 0)) }
+{
+    if emptied && next == 0 {
+        return false;
+    }
+    next != first
+}
+
 /// Whether a stock move leads to a board that the run does not have. `first` is the number of cards
 /// in the first stock, and `emptied` says whether a stock of the run was empty.
 fn goes_on(rules: &Rules, packed: &Packed, first: u8, emptied: bool) -> bool
@@ -48,7 +58,7 @@ fn goes_on(rules: &Rules, packed: &Packed, first: u8, emptied: bool) -> bool
     };
     match rules.redeals() {
         Redeals::Times(_) => true,
-        Redeals::Unlimited => next != first && !(emptied && next == 0),
+        Redeals::Unlimited => is_other_length(next, first, emptied),
     }
 }
 
@@ -61,6 +71,8 @@ fn list_along(rules: &Rules, packed: &mut Packed, out: &mut Vec<Step>) -> Result
     ensures moved { (k : ℕ) × (board_of packed.new ≡ after_stock_moves rules.now k (board_of packed.old)) }
     ensures stacked { is_stacked packed.new ≡ is_stacked packed.old }
 {
+    // This call brings that the rules are playable.
+    let _ = rules.parts();
     let first = packed.size(Spot::Stock);
     let mut emptied = first == 0;
     let mut deals = 0;
@@ -72,6 +84,28 @@ fn list_along(rules: &Rules, packed: &mut Packed, out: &mut Vec<Step>) -> Result
         push_waste_carries(rules, packed, deals, out)?;
     }
     Ok(())
+}
+
+/// Appends the stock steps of a stock that deals to the waste, and goes back.
+fn list_and_return(rules: &Rules, packed: &mut Packed, out: &mut Vec<Step>) -> Result<(), NoMemory>
+    requires belongs { Belongs rules.now (board_of packed.old) }
+    requires to_waste { IsTrue (deals_to_waste rules.now.target) }
+    ensures listed { OnOk result (out.new.items ≡ out.old.items ++ stock_steps rules.now (board_of packed.old)) }
+    ensures refused { OnErr result (out.new.items ≡ out.old.items) }
+    ensures as_before { packed.new ≡ packed.old }
+{
+    let size = out.len();
+    // No stock move yet: this notes where the stock ends.
+    let undo = packed.run_stock(rules, 0);
+    let listed = list_along(rules, packed, out);
+    packed.unrun_stock(undo);
+    match listed {
+        Ok(()) => Ok(()),
+        Err(refused) => {
+            out.truncate(size);
+            Err(NoMemory::from(refused))
+        }
+    }
 }
 
 /// Appends each stock step of the board once, by the number of stock moves and then in the order of
@@ -90,16 +124,5 @@ pub fn list_stock_steps(
     if rules.target() != Target::ToWaste {
         return Ok(());
     }
-    let size = out.len();
-    // No stock move yet: this notes where the stock ends.
-    let undo = packed.run_stock(rules, 0);
-    let listed = list_along(rules, packed, out);
-    packed.unrun_stock(undo);
-    match listed {
-        Ok(()) => Ok(()),
-        Err(refused) => {
-            out.truncate(size);
-            Err(NoMemory::from(refused))
-        }
-    }
+    list_and_return(rules, packed, out)
 }

@@ -5,7 +5,8 @@ ghost use Rattle.game_rules.specs.Belonging.{Belongs};
 ghost use Rattle.game_rules.specs.Order.{hole_place};
 ghost use Rattle.packed_state.specs.Packed.{board_of};
 ghost use Rattle.stock_steps.specs.Steps.{steps_from, waste_carries};
-ghost use Rattle.stock_moves.specs.Onto.{StartsWith, place_in, steps_onto};
+ghost use Rattle.legal_moves.specs.Offers.{StartsWith};
+ghost use Rattle.stock_moves.specs.Onto.{place_in, steps_onto};
 
 use game_model::Rules;
 use game_rules::{Move, Place};

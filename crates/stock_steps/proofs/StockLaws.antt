@@ -1,5 +1,6 @@
 -- The laws on stock moves and on the steps of a search, from playable rules and boards that belong to them.
-use Rattle.std.proofs.Common.{◌≡◌, ℕ, ◌+◌, Bool, true, false, not, refl, IsTrue, length, [], Option, Some, None}
+use Rattle.std.proofs.Common.{◌≡◌, ℕ, ◌+◌, ◌≤◌, Bool, true, false, not, refl, IsTrue, List, [], ◌∷◌, ◌++◌, length, arith, Some, None}
+use Rattle.std.specs.Prelude.{Option}
 use Rattle.game_rules.specs.declared.RuleParts.{RuleParts}
 use Rattle.game_rules.specs.declared.Move.{Move}
 use Rattle.game_rules.specs.declared.Move.TheVariants.{Carry, Deal, Redeal}
@@ -9,18 +10,20 @@ use Rattle.game_rules.specs.Belonging.{Belongs}
 use Rattle.game_rules.specs.Board.{Board}
 use Rattle.game_rules.specs.Play.{Legal, after}
 use Rattle.game_rules.specs.Order.{legal_moves}
-use Rattle.game_rules.specs.Winning.{Won, Wins}
-use Rattle.game_rules.specs.StockMoves.{is_carry}
+use Rattle.game_rules.specs.Winning.{Line, Won, Wins}
+use Rattle.game_rules.specs.StockMoves.{is_carry, after_stock_moves}
+use Rattle.game_rules.proofs.KeepsBelonging.{belongs-after}
+use Rattle.game_rules.proofs.StockMoves.{belongs-after_stock_moves}
 use Rattle.game_rules.proofs.MovesListed.{Contains-here}
 use Rattle.safe_moves.specs.Safe.{first_safe, is_safe}
 use Rattle.safe_moves.proofs.FirstSafe.{find-passes}
 use Rattle.safe_moves.proofs.SafeExchange.{exchange}
 use Rattle.stock_steps.specs.declared.Step.{Step}
-use Rattle.stock_steps.specs.Steps.{CanBeMade, after_step, expand, is_from_elsewhere, is_from_waste}
+use Rattle.stock_steps.specs.Steps.{CanAllBeMade, CanBeMade, after_step, after_steps, expand, expand_trail, is_from_elsewhere, is_from_waste}
 use Rattle.stock_steps.specs.StockSteps.{Commute, HasWinningStep}
 use Rattle.stock_steps.proofs.StockCommutes.{carry_first}
 use Rattle.stock_steps.proofs.StepLines.{playable_draw, step_line}
-use Rattle.stock_steps.proofs.Lines.{wins-after}
+use Rattle.stock_steps.proofs.Lines.{line-append, wins-after}
 use Rattle.stock_steps.proofs.Descent.{descent}
 
 not_true : (b : Bool) → IsTrue (not b) → b ≡ false
@@ -56,3 +59,19 @@ descent_by rules n board (Some move) e playable belongs open_board wins =
 pub lose_no_win : (rules : RuleParts) (n : ℕ) (board : Board) → IsPlayable rules → Belongs rules board
     → (Won rules board → ⊥) → Wins rules (n + 1) board → HasWinningStep rules n board
 lose_no_win rules n board = descent_by rules n board (first_safe rules board) refl
+
+-- the board after a step belongs to the rules
+pub belongs-after_step : (rules : RuleParts) (board : Board) (step : Step) → IsPlayable rules → Belongs rules board
+    → CanBeMade rules board step → Belongs rules (after_step rules board step)
+belongs-after_step rules board step playable belongs can =
+    belongs-after rules (after_stock_moves rules step.deals board) step.last playable
+    (belongs-after_stock_moves rules step.deals board playable belongs can.stock step.deals (omega arith)) can.last
+
+-- steps one after the other are a line
+pub trail_line : (rules : RuleParts) (board : Board) (trail : List Step) → CanAllBeMade rules board trail
+    → Line rules board (expand_trail rules board trail) (after_steps rules board trail)
+trail_line rules board [] made = refl
+trail_line rules board (step ∷ steps) made =
+    line-append rules board (after_step rules board step) (after_steps rules (after_step rules board step) steps)
+    (expand rules board step) (expand_trail rules (after_step rules board step) steps)
+    (step_line rules board step made.0) (trail_line rules (after_step rules board step) steps made.1)

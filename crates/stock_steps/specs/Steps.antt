@@ -1,5 +1,5 @@
 -- The steps of a board in their order, and the single moves of a step.
-use Rattle.std.specs.Prelude.{ℕ, zero, suc, ◌+◌, ◌*◌, Bool, true, false, ◌==◌, ◌&&◌, not, List, [], ◌∷◌, ◌++◌, map, length, Option, Some, None, if◌then◌else◌}
+use Rattle.std.specs.Prelude.{ℕ, zero, suc, ◌+◌, ◌*◌, Bool, true, false, ◌==◌, ◌&&◌, not, List, [], ◌∷◌, ◌++◌, map, length, Option, Some, None, if◌then◌else◌, ⊤}
 use Rattle.std.specs.List.{filter, list_any}
 use Rattle.std.specs.Option.{option_to_list}
 use Rattle.card_piles.specs.declared.Card.{Card}
@@ -35,6 +35,21 @@ after_step rules board step = after rules (after_stock_moves rules step.deals bo
 pub record CanBeMade (rules : RuleParts) (board : Board) (step : Step) : Type 0 where
   pub stock : HasStockMoves rules step.deals board
   pub last : Legal rules (after_stock_moves rules step.deals board) step.last
+
+-- the single moves of a list of steps, each step's on the board where it is made, one after the other
+abbrev pub expand_trail : RuleParts → Board → List Step → List Move
+expand_trail rules board [] = []
+expand_trail rules board (step ∷ steps) = expand rules board step ++ expand_trail rules (after_step rules board step) steps
+
+-- the board after a list of steps
+abbrev pub after_steps : RuleParts → Board → List Step → Board
+after_steps rules board [] = board
+after_steps rules board (step ∷ steps) = after_steps rules (after_step rules board step) steps
+
+-- each step can be made from the board to which the steps before it lead
+abbrev pub CanAllBeMade : RuleParts → Board → List Step → Type 0
+CanAllBeMade rules board [] = ⊤
+CanAllBeMade rules board (step ∷ steps) = CanBeMade rules board step × CanAllBeMade rules (after_step rules board step) steps
 
 -- The steps of a board.
 

@@ -1,5 +1,5 @@
 //! Laws on stock moves and on the steps of a search, each the contract of a function that does nothing.
-ghost use Rattle.std.specs.Prelude.{◌≡◌, ◌≢◌, ℕ, ◌+◌, ◌<◌, ◌≤◌, ◌↔◌, false, not, length, IsTrue};
+ghost use Rattle.std.specs.Prelude.{◌≡◌, ◌≢◌, ℕ, ◌+◌, ◌<◌, ◌≤◌, ◌↔◌, false, not, List, length, IsTrue};
 ghost use Rattle.std.specs.List.{AllPairs, Contains};
 ghost use Rattle.game_rules.specs.declared.RuleParts.{RuleParts};
 ghost use Rattle.game_rules.specs.declared.Move.{Move};
@@ -11,7 +11,7 @@ ghost use Rattle.game_rules.specs.Play.{Legal, after};
 ghost use Rattle.game_rules.specs.Winning.{Line, Won, Wins};
 ghost use Rattle.game_rules.specs.StockMoves.{IsNextByStock, after_stock_moves, is_carry};
 ghost use Rattle.stock_steps.specs.declared.Step.{Step};
-ghost use Rattle.stock_steps.specs.Steps.{CanBeMade, after_step, expand, is_from_elsewhere, steps, stock_steps};
+ghost use Rattle.stock_steps.specs.Steps.{CanAllBeMade, CanBeMade, after_step, after_steps, expand, expand_trail, is_from_elsewhere, steps, stock_steps};
 ghost use Rattle.stock_steps.specs.StockSteps.{ComesAgain, Commute, HasWinningStep, IsAlongRun, IsReached, IsStockRun, StandsBefore, StockStep};
 
 /// The list of stock steps holds exactly these, each once, by the number of stock moves and then in
@@ -62,11 +62,15 @@ pub fn stock_moves_can_be_cut()
         → IsReached rules board (after_stock_moves rules k board) }
 {}
 
-/// A step that can be made is a line of its single moves, which leads to the board after the step.
-/// Each step of a board can be made, and stands once in its list.
+/// A step that can be made is a line of its single moves, which leads to the board after the step, and
+/// so are steps one after the other. Each step of a board can be made, and stands once in its list.
 pub fn steps_are_lines()
     ensures line { (rules : RuleParts) (board : Board) (step : Step) → CanBeMade rules board step
         → Line rules board (expand rules board step) (after_step rules board step) }
+    ensures lines { (rules : RuleParts) (board : Board) (trail : List Step) → CanAllBeMade rules board trail
+        → Line rules board (expand_trail rules board trail) (after_steps rules board trail) }
+    ensures belongs { (rules : RuleParts) (board : Board) (step : Step) → IsPlayable rules → Belongs rules board
+        → CanBeMade rules board step → Belongs rules (after_step rules board step) }
     ensures made { (rules : RuleParts) (board : Board) (step : Step) → IsPlayable rules
         → Contains (steps rules board) step → CanBeMade rules board step }
     ensures once { (rules : RuleParts) (board : Board) → IsPlayable rules → AllPairs (λ a b. a ≢ b) (steps rules board) }

@@ -12,8 +12,9 @@ mod laws;
 
 use game_rules::Move;
 pub use laws::{
-    stock_moves_can_be_cut, stock_moves_commute, stock_moves_win_nothing, stock_runs_end_by_length,
-    stock_steps_are_listed, stock_steps_are_short, steps_are_lines, steps_lose_no_win,
+    steps_are_lines, steps_lose_no_win, stock_moves_can_be_cut, stock_moves_commute,
+    stock_moves_win_nothing, stock_runs_end_by_length, stock_steps_are_listed,
+    stock_steps_are_short,
 };
 
 /// A step of a search: so many stock moves, and then the last move.

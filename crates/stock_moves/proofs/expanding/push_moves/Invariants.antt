@@ -6,5 +6,5 @@ use Rattle.stock_moves.proofs.expanding.push_moves.Given as goal
 
 abbrev pub invariant-loop-made : goal.invariant-loop-made
 invariant-loop-made l =
-    (l.out.items ≡ l.fn.out.now.items ++ stock_moves l.rules l.made (board_of l.before))
+    (l.out.items ≡ l.initial.out.items ++ stock_moves l.rules l.made (board_of l.before))
     × (l.stock ≡ length (after_stock_moves l.rules l.made (board_of l.before)).stock)

@@ -1,15 +1,19 @@
-use Rattle.std.proofs.Common.{◌≡◌, ◌++◌, subst}
+use Rattle.std.proofs.Common.{◌≡◌, ◌≢◌, ◌++◌, subst}
 use Rattle.std.specs.Prelude.{OnOk}
 use Rattle.packed_state.specs.Packed.{board_of}
-use Rattle.safe_moves.specs.Steps.{steps}
-use Rattle.safe_moves.proofs.StepsWin.{steps-once}
+use Rattle.std.specs.List.{AllPairs}
+use Rattle.stock_steps.specs.Steps.{steps}
+use Rattle.stock_steps.proofs.StepLines.{playable_draw}
+use Rattle.stock_steps.proofs.StepsOnce.{steps-apart}
 use Rattle.search_space.specs.Plain.{Standing}
 use Rattle.search_space.proofs.space.PlainSpaceSpace.steps.Goals as goal
 
 pub returns-clause-ok : goal.returns-clause-ok
 returns-clause-ok c =
     subst (λ (s : Standing). OnOk c.list_steps.result (c.list_steps.new.out.items ≡ c.args.out.now.items ++ steps s.rules (board_of s.packed)))
-    c.self.view_is c.list_steps.ensures
+    c.self.view_is c.list_steps.ensures.listed
 
 pub returns-clause-differ : goal.returns-clause-differ
-returns-clause-differ c = steps-once c.args.self.now.rules (board_of c.args.self.now.packed)
+returns-clause-differ c =
+    subst (λ (s : Standing). AllPairs (λ a b. a ≢ b) (steps s.rules (board_of s.packed))) c.self.view_is
+    (steps-apart c.self.inside.rules.now (board_of c.self.inside.packed) (playable_draw c.self.inside.rules.now c.self.invariant.0))

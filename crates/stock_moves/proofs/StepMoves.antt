@@ -1,17 +1,16 @@
 -- The stock moves of a step, told by the number of cards in the stock.
-use Rattle.std.proofs.Common.{◌≡◌, ◌⊎◌, inl, inr, ℕ, zero, suc, ◌+◌, ◌-◌, ◌<◌, ◌≤◌, Bool, true, false, not, List, [], ◌∷◌, ◌++◌, length, refl, ap, sym, ◌∙◌, subst, arith, IsTrue, Some, None, append_assoc, append-nil}
-use Rattle.std.specs.Prelude.{if◌then◌else◌}
+use Rattle.std.proofs.Common.{◌≡◌, inl, inr, ℕ, zero, suc, ◌-◌, ◌<◌, ◌≤◌, Bool, true, false, List, [], ◌∷◌, ◌++◌, length, refl, ap, sym, ◌∙◌, arith, IsTrue, Some, None, append_assoc, append-nil}
 use Rattle.std.specs.Option.{option_to_list}
 use Rattle.std.proofs.lemmas.List.{nil_from_length}
 use Rattle.game_rules.specs.declared.RuleParts.{RuleParts}
 use Rattle.game_rules.specs.declared.Move.{Move}
-use Rattle.game_rules.specs.declared.Move.TheVariants.{Carry, Deal, Redeal}
+use Rattle.game_rules.specs.declared.Move.TheVariants.{Deal, Redeal}
 use Rattle.game_rules.specs.Rules.{deals_to_waste}
 use Rattle.game_rules.specs.Conflicts.{IsPlayable, HasLimits}
 use Rattle.game_rules.specs.Belonging.{Belongs}
 use Rattle.game_rules.specs.Board.{Board}
 use Rattle.game_rules.specs.Play.{is_empty, is_legal_redeal}
-use Rattle.game_rules.specs.StockMoves.{HasStockMoves, IsNextByStock, stock_move, after_stock_move, after_stock_moves}
+use Rattle.game_rules.specs.StockMoves.{IsNextByStock, stock_move, after_stock_move, after_stock_moves}
 use Rattle.game_rules.proofs.Limits.{limits_of}
 use Rattle.stock_steps.specs.Steps.{stock_moves}
 use Rattle.stock_steps.proofs.StockKin.{kin_after, kin_size, next_cases, one_stock_move, size, dealt_length, redealt_length}
@@ -70,3 +69,14 @@ redeal-next rules a b to_waste next none =
 -- stock moves keep the number of cards
 pub size-after : (rules : RuleParts) (k : ℕ) (board : Board) → IsTrue (deals_to_waste rules.target) → size (after_stock_moves rules k board) ≡ size board
 size-after rules k board to_waste = sym (kin_size board (after_stock_moves rules k board) (kin_after rules k board to_waste))
+
+-- the moves of one stock move more
+pub moves-more : (rules : RuleParts) (k : ℕ) (board : Board) (move : Move) (before old new : List Move)
+    → old ≡ before ++ stock_moves rules k board → stock_move rules (after_stock_moves rules k board) ≡ Some move
+    → new ≡ old ++ move ∷ [] → new ≡ before ++ stock_moves rules (suc k) board
+moves-more rules k board move before old new e_old one e_new =
+    e_new
+    ∙ ap (λ (moves : List Move). moves ++ move ∷ []) e_old
+    ∙ append_assoc before (stock_moves rules k board) (move ∷ [])
+    ∙ ap (λ (moves : List Move). before ++ moves)
+    (ap (λ found. stock_moves rules k board ++ option_to_list found) (sym one) ∙ sym (stock_moves-suc rules k board))

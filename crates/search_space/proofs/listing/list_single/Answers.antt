@@ -1,0 +1,45 @@
+use Rattle.std.proofs.Common.{◌≡◌, Bool, ◌||◌, List, [], ◌∷◌, ◌++◌, length, take, get_or, refl, ap, sym, ◌∙◌, arith, append-nil, append_assoc}
+use Rattle.std.specs.List.{filter}
+use Rattle.std.proofs.lemmas.List.{take_all}
+use Rattle.game_rules.specs.declared.Move.{Move}
+use Rattle.game_rules.specs.declared.Move.TheVariants.{Carry}
+use Rattle.game_rules.specs.declared.Place.TheVariants.{Tableau}
+use Rattle.game_rules.specs.Order.{legal_moves}
+use Rattle.packed_state.specs.Packed.{board_of}
+use Rattle.stock_steps.specs.declared.Step.{Step}
+use Rattle.stock_steps.specs.Steps.{is_from_elsewhere, steps_from}
+use Rattle.search_space.proofs.Singles.{singles-more, singles-none}
+use Rattle.search_space.proofs.listing.list_single.Goals.{then-is_listed+in_ok-push_single, else-is_listed}
+use Rattle.search_space.proofs.listing.list_single.Goals as goal
+
+pub loop-m-init : goal.loop-m-init
+loop-m-init c = sym (append-nil c.args.out.now.items)
+
+pub loop-m-preserved : goal.loop-m-preserved
+loop-m-preserved c =
+    let moves : List Move = c.deref-m-items.result.now in
+    let test : Move → Bool = λ m. c.args.all || is_from_elsewhere m in
+    let blank : Move = Carry (Tableau 0) (Tableau 0) 0 in
+    let item : Move = get_or moves c.loop-m.m-index blank in
+    elim c.if-is_listed.branch [
+      | then-is_listed+in_ok-push_single w ↦
+          rw w.out-is w.in_ok-push_single.ensures
+          ∙ ap (λ (xs : List Step). xs ++ steps_from 0 (item ∷ [])) c.loop-m.invariant
+          ∙ append_assoc c.args.out.now.items (steps_from 0 (filter test (take c.loop-m.m-index moves))) (steps_from 0 (item ∷ []))
+          ∙ ap (λ (xs : List Step). c.args.out.now.items ++ xs)
+          (sym (singles-more test moves c.loop-m.m-index blank c.loop-m-test.true (sym c.is_listed.ensures ∙ w.if-is_listed.true)))
+      | else-is_listed w ↦
+          rw w.out-is c.loop-m.invariant
+          ∙ ap (λ (xs : List Step). c.args.out.now.items ++ xs)
+          (sym (singles-none test moves c.loop-m.m-index blank c.loop-m-test.true (sym c.is_listed.ensures ∙ w.if-is_listed.false)))
+    ]
+
+pub returns : goal.returns
+returns c =
+    let moves : List Move = c.deref-m-items.result.now in
+    let all : take c.loop-m.m-index moves ≡ moves = take_all c.loop-m.m-index moves c.loop-m-test.false in
+    let listed : c.list_moves.new.out.items ≡ legal_moves c.args.rules.now (board_of c.args.packed.now) =
+    c.in-Ok.ensures.ok ∙ ap (λ (ms : List Move). ms ++ legal_moves c.args.rules.now (board_of c.args.packed.now)) c.new-moves.ensures.items in
+    c.loop-m.invariant
+    ∙ ap (λ (ms : List Move). c.args.out.now.items ++ steps_from 0 (filter (λ m. c.args.all || is_from_elsewhere m) ms))
+    (all ∙ c.deref-m-items.ensures.value ∙ listed)

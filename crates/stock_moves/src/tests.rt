@@ -1,1 +1,0 @@
-//! Stock steps of small games.
