@@ -1,5 +1,5 @@
 -- What follows from verdicts alone: where nothing is forgotten, there is one.
-use Rattle.std.proofs.Common.{◌≡◌, ℕ, ◌≤◌, inl, inr, ap, sym, ◌∙◌, subst, List, [], ◌∷◌, length, arith}
+use Rattle.std.proofs.Common.{◌≡◌, ℕ, ◌≤◌, inl, inr, ap, sym, ◌∙◌, subst, List, length, arith}
 use Rattle.trails.specs.Trails.{end}
 use Rattle.trails.specs.Walks.{Follows, IsWalk, IsClosed}
 use Rattle.trails.specs.Fresh.{IsFresh}
@@ -10,13 +10,16 @@ use Rattle.trails.proofs.EndedWalks.{open_after, one_walk}
 use Rattle.game_rules.specs.declared.RuleParts.{RuleParts}
 use Rattle.game_rules.specs.declared.Move.{Move}
 use Rattle.game_rules.specs.Board.{Board}
-use Rattle.game_rules.specs.Play.{after}
 use Rattle.game_rules.specs.Winning.{Won, Line, Winnable}
-use Rattle.safe_moves.proofs.StepsWin.{steps-once}
+use Rattle.stock_steps.specs.declared.Step.{Step}
+use Rattle.stock_steps.specs.Steps.{expand_trail}
+use Rattle.stock_steps.proofs.StepsOnce.{steps-apart}
 use Rattle.line_printer.specs.declared.verdict.Verdict.{Verdict}
 use Rattle.line_printer.specs.declared.verdict.Verdict.TheVariants as verdict
 use Rattle.search_space.specs.Game.{plain_game}
 use Rattle.search_space.proofs.Alike.{plain_game-is_alike}
+use Rattle.same_boards.specs.Same.{Same}
+use Rattle.solve_job.proofs.Lines.{trail_end}
 use Rattle.solve_job.specs.Verdicts.{IsVerdict, nodes_of}
 
 -- where the start is not winnable, no line wins
@@ -25,23 +28,18 @@ pub no_line_wins : (rules : RuleParts) (start : Board) (moves : List Move) (last
 no_line_wins rules start moves last never line won =
     never (length moves, record { moves = moves; end = last; short = omega arith; line = line; won = won })
 
--- the last board of a line is the end of the trail
-line_ends : (rules : RuleParts) (board last : Board) (moves : List Move) → Line rules board moves last → end (plain_game rules) board moves ≡ last
-line_ends rules board last [] line = sym line
-line_ends rules board last (move ∷ moves) line = line_ends rules (after rules board move) last moves line.1
-
--- no legal move stands twice
+-- no step stands twice
 plain_steps : (rules : RuleParts) (start : Board) → HasPlainSteps (plain_game rules) start
-plain_steps rules start = λ p is_trail. steps-once rules (end (plain_game rules) start p)
+plain_steps rules start = λ p is_trail. steps-apart rules (end (plain_game rules) start p)
 
 -- how a verdict ends its walk: a trail with a won end follows, or the walk is closed, or a trail to a new board
 -- follows that is not won
-abbrev Ends : RuleParts → Board → ℕ → List (List Move) → Verdict → Type 0
+abbrev Ends : RuleParts → Board → ℕ → List (List Step) → Verdict → Type 0
 Ends rules start limit walk (verdict.Winnable line nodes narrow_nodes) =
-    Follows (plain_game rules) start walk line × Won rules (end (plain_game rules) start line)
+    (z : List Step) × (line ≡ expand_trail rules start z) × Follows (plain_game rules) start walk z × Won rules (end (plain_game rules) start z)
 Ends rules start limit walk (verdict.Unwinnable nodes narrow_nodes) = IsClosed (plain_game rules) start walk
 Ends rules start limit walk (verdict.Undecided nodes narrow_nodes) =
-    (length walk ≡ limit) × (z : List Move) × Follows (plain_game rules) start walk z × IsOpen (plain_game rules) start walk z
+    (length walk ≡ limit) × (z : List Step) × Follows (plain_game rules) start walk z × IsOpen (plain_game rules) start walk z
     × (¬ Won rules (end (plain_game rules) start z))
 
 -- the nodes of a narrow search
@@ -52,7 +50,7 @@ narrow_of (verdict.Undecided nodes narrow_nodes) = narrow_nodes
 
 -- what a verdict rests on
 record Rests (rules : RuleParts) (start : Board) (cache limit : ℕ) (v : Verdict) : Type 0 where
-  walk : List (List Move)
+  walk : List (List Step)
   is_walk : IsWalk (plain_game rules) start walk
   fresh : IsFresh (plain_game rules) cache start walk
   count : length walk ≡ nodes_of v
@@ -70,7 +68,12 @@ rests_on rules start cache limit (verdict.Winnable line nodes narrow_nodes) is f
       fresh = h.searched.fresh;
       count = h.searched.count;
       within = omega (arith, h.searched.count, h.searched.within);
-      ends = (h.follows, subst (Won rules) (sym (line_ends rules start h.end line h.legal)) h.won);
+      ends = (
+        h.trail,
+        h.expands,
+        h.follows,
+        subst (Won rules) (sym (trail_end rules (Won rules) (Same rules) start h.trail)) h.won,
+      );
       no_narrow = is.1;
     }
 rests_on rules start cache limit (verdict.Unwinnable nodes narrow_nodes) is few =
@@ -103,20 +106,20 @@ rests_on rules start cache limit (verdict.Undecided nodes narrow_nodes) is few =
       no_narrow = is.1;
     }
 
-ended : (rules : RuleParts) (start : Board) (limit : ℕ) (walk : List (List Move)) (v : Verdict) → Ends rules start limit walk v
+ended : (rules : RuleParts) (start : Board) (limit : ℕ) (walk : List (List Step)) (v : Verdict) → Ends rules start limit walk v
     → IsEnded (plain_game rules) start limit walk
-ended rules start limit walk (verdict.Winnable line nodes narrow_nodes) ends = inl (line, ends.0, ends.1)
+ended rules start limit walk (verdict.Winnable line nodes narrow_nodes) ends = inl (ends.0, ends.2, ends.3)
 ended rules start limit walk (verdict.Unwinnable nodes narrow_nodes) ends = inr (inl ends)
 ended rules start limit walk (verdict.Undecided nodes narrow_nodes) ends = inr (inr ends.0)
 
 -- one walk ends in one way
-module _ (rules : RuleParts) (start : Board) (limit : ℕ) (walk : List (List Move)) (is_walk : IsWalk (plain_game rules) start walk) where
-  no_further : (z : List Move) → IsClosed (plain_game rules) start walk → Follows (plain_game rules) start walk z
+module _ (rules : RuleParts) (start : Board) (limit : ℕ) (walk : List (List Step)) (is_walk : IsWalk (plain_game rules) start walk) where
+  no_further : (z : List Step) → IsClosed (plain_game rules) start walk → Follows (plain_game rules) start walk z
       → IsOpen (plain_game rules) start walk z → ⊥
   no_further z closed follows opens =
       none_after_closed (plain_game rules) start walk is_walk (plain_steps rules start) closed z follows opens
 
-  no_win : (line z : List Move) → Follows (plain_game rules) start walk line → Won rules (end (plain_game rules) start line)
+  no_win : (line z : List Step) → Follows (plain_game rules) start walk line → Won rules (end (plain_game rules) start line)
       → Follows (plain_game rules) start walk z → IsOpen (plain_game rules) start walk z → ¬ Won rules (end (plain_game rules) start z) → ⊥
   no_win line z follows won follows' opens not_won =
       let same : line ≡ z = at_most_one (plain_game rules) start walk is_walk (plain_steps rules start) line z follows follows' (inl won) opens in
@@ -124,21 +127,22 @@ module _ (rules : RuleParts) (start : Board) (limit : ℕ) (walk : List (List Mo
 
   one_ending : (v w : Verdict) → Ends rules start limit walk v → Ends rules start limit walk w → nodes_of v ≡ nodes_of w → narrow_of v ≡ narrow_of w → v ≡ w
   one_ending (verdict.Winnable line nodes narrow_nodes) (verdict.Winnable line' nodes' narrow_nodes') e f same narrow =
-      let one : line ≡ line' = at_most_one (plain_game rules) start walk is_walk (plain_steps rules start) line line' e.0 f.0 (inl e.1) (inl f.1) in
+      let trails : e.0 ≡ f.0 = at_most_one (plain_game rules) start walk is_walk (plain_steps rules start) e.0 f.0 e.2 f.2 (inl e.3) (inl f.3) in
+      let one : line ≡ line' = e.1 ∙ (ap (expand_trail rules start) trails ∙ sym f.1) in
       ap (λ l. verdict.Winnable l nodes narrow_nodes) one
       ∙ (ap (λ n. verdict.Winnable line' n narrow_nodes) same ∙ ap (λ k. verdict.Winnable line' nodes' k) narrow)
   one_ending (verdict.Winnable line nodes narrow_nodes) (verdict.Unwinnable nodes' narrow_nodes') e f same narrow =
-      absurd (no_further line f e.0 (inl e.1))
+      absurd (no_further e.0 f e.2 (inl e.3))
   one_ending (verdict.Winnable line nodes narrow_nodes) (verdict.Undecided nodes' narrow_nodes') e f same narrow =
-      absurd (no_win line f.1 e.0 e.1 f.2 f.3 f.4)
+      absurd (no_win e.0 f.1 e.2 e.3 f.2 f.3 f.4)
   one_ending (verdict.Unwinnable nodes narrow_nodes) (verdict.Winnable line' nodes' narrow_nodes') e f same narrow =
-      absurd (no_further line' e f.0 (inl f.1))
+      absurd (no_further f.0 e f.2 (inl f.3))
   one_ending (verdict.Unwinnable nodes narrow_nodes) (verdict.Unwinnable nodes' narrow_nodes') e f same narrow =
       ap (λ n. verdict.Unwinnable n narrow_nodes) same ∙ ap (λ k. verdict.Unwinnable nodes' k) narrow
   one_ending (verdict.Unwinnable nodes narrow_nodes) (verdict.Undecided nodes' narrow_nodes') e f same narrow =
       absurd (no_further f.1 e f.2 f.3)
   one_ending (verdict.Undecided nodes narrow_nodes) (verdict.Winnable line' nodes' narrow_nodes') e f same narrow =
-      absurd (no_win line' e.1 f.0 f.1 e.2 e.3 e.4)
+      absurd (no_win f.0 e.1 f.2 f.3 e.2 e.3 e.4)
   one_ending (verdict.Undecided nodes narrow_nodes) (verdict.Unwinnable nodes' narrow_nodes') e f same narrow =
       absurd (no_further e.1 f e.2 e.3)
   one_ending (verdict.Undecided nodes narrow_nodes) (verdict.Undecided nodes' narrow_nodes') e f same narrow =

@@ -1,26 +1,52 @@
--- Trails of legal moves are lines of legal moves.
-use Rattle.std.proofs.Common.{ℕ, List, [], ◌∷◌, refl}
+-- Trails of steps are lines of legal moves.
+use Rattle.std.proofs.Common.{◌≡◌, ℕ, zero, suc, ◌+◌, ◌<◌, List, [], ◌∷◌, ◌++◌, length, drop, get_or, refl, ap, sym, ◌∙◌, arith, append_assoc}
 use Rattle.trails.specs.Game.{Game}
 use Rattle.trails.specs.Trails.{end, IsTrail}
 use Rattle.game_rules.specs.declared.RuleParts.{RuleParts}
 use Rattle.game_rules.specs.declared.Move.{Move}
+use Rattle.game_rules.specs.Conflicts.{IsPlayable}
 use Rattle.game_rules.specs.Board.{Board}
-use Rattle.game_rules.specs.Play.{after}
-use Rattle.game_rules.specs.Winning.{Won, Line, Winnable, Wins}
-use Rattle.safe_moves.specs.Steps.{steps}
-use Rattle.safe_moves.proofs.StepsWin.{steps-legal}
+use Rattle.game_rules.specs.Winning.{Won, Winnable, Wins}
+use Rattle.stock_steps.specs.declared.Step.{Step}
+use Rattle.stock_steps.specs.Steps.{CanAllBeMade, after_step, after_steps, expand, expand_trail, steps}
+use Rattle.stock_steps.proofs.StepLines.{playable_draw, steps-made}
 
--- a game whose steps are the legal moves, whatever counts as won and as the same
-abbrev pub any_game : RuleParts → (Board → Type 0) → (Board → Board → Type 0) → Game Board Move
-any_game rules Won Same = record { steps = steps rules; after = after rules; Won = Won; Same = Same }
+-- a game of these steps, whatever counts as won and as the same
+abbrev pub any_game : RuleParts → (Board → Type 0) → (Board → Board → Type 0) → Game Board Step
+any_game rules Won Same = record { steps = steps rules; after = after_step rules; Won = Won; Same = Same }
 
--- a trail is a line to its end
-pub line_of_trail : (rules : RuleParts) (Won : Board → Type 0) (Same : Board → Board → Type 0) (board : Board) (trail : List Move)
-    → IsTrail (any_game rules Won Same) board trail → Line rules board trail (end (any_game rules Won Same) board trail)
-line_of_trail rules Won Same board [] is = refl
-line_of_trail rules Won Same board (move ∷ moves) is =
-    (steps-legal rules board move is.0, line_of_trail rules Won Same (after rules board move) moves is.1)
+-- each step of a trail can be made
+pub trail_made : (rules : RuleParts) (Won : Board → Type 0) (Same : Board → Board → Type 0) (board : Board) (trail : List Step)
+    → IsPlayable rules → IsTrail (any_game rules Won Same) board trail → CanAllBeMade rules board trail
+trail_made rules Won Same board [] playable is = tt
+trail_made rules Won Same board (step ∷ rest) playable is =
+    (steps-made rules board step (playable_draw rules playable) is.0, trail_made rules Won Same (after_step rules board step) rest playable is.1)
+
+-- the end of a trail is the board after its steps
+pub trail_end : (rules : RuleParts) (Won : Board → Type 0) (Same : Board → Board → Type 0) (board : Board) (trail : List Step)
+    → end (any_game rules Won Same) board trail ≡ after_steps rules board trail
+trail_end rules Won Same board [] = refl
+trail_end rules Won Same board (step ∷ rest) = trail_end rules Won Same (after_step rules board step) rest
 
 -- where no number of moves wins, the board is not winnable
 pub not_winnable : (rules : RuleParts) (board : Board) → ((n : ℕ) → ¬ Wins rules n board) → ¬ Winnable rules board
 not_winnable rules board never wins = never wins.0 wins.1
+
+-- a trail from one of its steps on
+pub drop-step : (steps : List Step) (i : ℕ) (d : Step) → i < length steps → drop i steps ≡ get_or steps i d ∷ drop (i + 1) steps
+drop-step [] i d less = absurd (omega (arith, less))
+drop-step (step ∷ rest) zero d less = refl
+drop-step (step ∷ rest) (suc i) d less =
+    let more : suc i + 1 ≡ suc (i + 1) = omega arith in
+    drop-step rest i d (omega (arith, less)) ∙ ap (λ (k : ℕ). get_or rest i d ∷ drop k (step ∷ rest)) (sym more)
+
+-- the moves of one step more
+pub moves-more : (rules : RuleParts) (here there : Board) (step : Step) (rest left : List Step) (old new whole : List Move)
+    → left ≡ step ∷ rest → there ≡ after_step rules here step → new ≡ old ++ expand rules here step
+    → old ++ expand_trail rules here left ≡ whole → new ++ expand_trail rules there rest ≡ whole
+moves-more rules here there step rest left old new whole e_left e_there e_new e =
+    ap (λ (b : Board). new ++ expand_trail rules b rest) e_there
+    ∙ ap (λ (moves : List Move). moves ++ expand_trail rules (after_step rules here step) rest) e_new
+    ∙ append_assoc old (expand rules here step) (expand_trail rules (after_step rules here step) rest)
+    ∙ ap (λ (steps : List Step). old ++ expand_trail rules here steps) (sym e_left)
+    ∙ e

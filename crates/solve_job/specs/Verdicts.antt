@@ -7,31 +7,34 @@ use Rattle.game_rules.specs.declared.RuleParts.{RuleParts}
 use Rattle.game_rules.specs.declared.Move.{Move}
 use Rattle.game_rules.specs.Board.{Board}
 use Rattle.game_rules.specs.Winning.{Won, Line, Winnable}
+use Rattle.stock_steps.specs.declared.Step.{Step}
+use Rattle.stock_steps.specs.Steps.{after_steps, expand_trail}
 use Rattle.search_space.specs.Game.{plain_game}
 use Rattle.line_printer.specs.declared.verdict.Verdict.{Verdict}
 use Rattle.line_printer.specs.declared.verdict.Verdict.TheVariants as verdict
 
 -- The boards that were expanded are the ends of a walk of so many trails, no more than the limit. The walk
 -- comes to a board again, or to one that is the same, only if at least `cache` others were touched since.
-pub record IsSearched (rules : RuleParts) (start : Board) (cache limit nodes : ℕ) (walk : List (List Move)) : Type 0 where
+pub record IsSearched (rules : RuleParts) (start : Board) (cache limit nodes : ℕ) (walk : List (List Step)) : Type 0 where
   pub is_walk : IsWalk (plain_game rules) start walk
   pub fresh : IsFresh (plain_game rules) cache start walk
   pub count : length walk ≡ nodes
   pub within : nodes ≤ limit
 
--- The line is one of legal moves to a won board. It follows the walk.
+-- The line is one of legal moves to a won board. It is the single moves of a trail that follows the walk.
 pub record IsWinnable (rules : RuleParts) (start : Board) (cache limit : ℕ) (line : List Move) (nodes : ℕ) : Type 0 where
-  pub end : Board
-  pub legal : Line rules start line end
-  pub won : Won rules end
-  pub walk : List (List Move)
+  pub trail : List Step
+  pub expands : line ≡ expand_trail rules start trail
+  pub legal : Line rules start line (after_steps rules start trail)
+  pub won : Won rules (after_steps rules start trail)
+  pub walk : List (List Step)
   pub searched : IsSearched rules start cache limit nodes walk
-  pub follows : Follows (plain_game rules) start walk line
+  pub follows : Follows (plain_game rules) start walk trail
 
 -- No line of legal moves, of any length, leads to a won board. The walk is closed.
 pub record IsUnwinnable (rules : RuleParts) (start : Board) (cache limit nodes : ℕ) : Type 0 where
   pub never : ¬ Winnable rules start
-  pub walk : List (List Move)
+  pub walk : List (List Step)
   pub searched : IsSearched rules start cache limit nodes walk
   pub closed : IsClosed (plain_game rules) start walk
   pub some_node : 1 ≤ nodes
@@ -40,9 +43,9 @@ pub record IsUnwinnable (rules : RuleParts) (start : Board) (cache limit nodes :
 -- every list of boards that covers the game is longer than the nodes or longer than the cache.
 pub record IsUndecided (rules : RuleParts) (start : Board) (cache limit nodes : ℕ) : Type 0 where
   pub spent : nodes ≡ limit
-  pub walk : List (List Move)
+  pub walk : List (List Step)
   pub searched : IsSearched rules start cache limit nodes walk
-  pub further : List Move
+  pub further : List Step
   pub clean : IsClean (plain_game rules) start further
   pub follows : Follows (plain_game rules) start walk further
   pub fresh : IsFresh (plain_game rules) cache start (walk ++ further ∷ [])

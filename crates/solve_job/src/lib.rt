@@ -1,4 +1,4 @@
-//! The solver: a depth-first search over the moves that lose no win, with a memo of a stated size.
+//! The solver: a depth-first search over the steps that lose no win, with a memo of a stated size.
 //!
 //! Means: a verdict speaks of one start under its rules. `Limits` are what a search may spend and remember.
 //! Above: `solve` answers winnable with a line of legal moves to a won board, unwinnable only where no
@@ -8,22 +8,24 @@
 #![tactic(auto)]
 
 pub mod laws;
+mod search_anew;
 #[cfg(test)]
 mod tests;
+mod trail_line;
 
 ghost use Rattle.std.specs.Prelude.{◌≡◌, ◌≤◌, IfOk, min};
 ghost use Rattle.game_rules.specs.Belonging.{Belongs};
 ghost use Rattle.solve_job.specs.Verdicts.{IsVerdict, IsDecided, IsSmall};
 
 use card_piles::NoMemory;
-use dfs_core::{Found, search};
+use dfs_core::Found;
 use game_model::{Board, Rules};
-use legal_moves::Line;
 use line_printer::Verdict;
-use node_budget::Budget;
+pub use search_anew::MemoKind;
+use search_anew::{Searched, search_anew};
 use search_space::PlainSpace;
 use std::alloc::Global;
-use transposition::LruMemo;
+use trail_line::line_of;
 
 /// What a search may spend and remember.
 #[derive(Clone, Copy, Debug, PartialEq, Eq)]
@@ -32,6 +34,8 @@ pub struct Limits {
     pub cache: u32,
     /// How many boards may be expanded.
     pub nodes: u64,
+    /// Which memo the search asks. No clause of a verdict depends on it.
+    pub memo: MemoKind,
 }
 
 /// Searches for a line to a won board.
@@ -52,18 +56,15 @@ pub fn solve(
     // This call brings that the rules are playable.
     let _ = rules.parts();
     let mut space = PlainSpace::new(rules, start);
-    let mut budget = Budget::new(limits.nodes);
-    let Ok(memo) = LruMemo::new(alloc, limits.cache) else {
+    let Ok(searched) = search_anew(alloc, &mut space, limits.memo, limits.cache, limits.nodes)
+    else {
         return Err(NoMemory);
     };
-    let Ok(found) = search(alloc, &mut space, memo, &mut budget) else {
-        return Err(NoMemory);
-    };
-    let nodes = budget.spent();
+    let Searched { found, nodes } = searched;
     let narrow_nodes = 0;
     match found {
         Found::Won(trail) => Ok(Verdict::Winnable {
-            line: Line::from_vec(trail.into_vec()),
+            line: line_of(alloc, rules, start, trail.items())?,
             nodes,
             narrow_nodes,
         }),

@@ -8,15 +8,16 @@ use Rattle.solver_words.specs.declared.fault.WordFault.{WordFault}
 use Rattle.solver_words.specs.declared.fault.WordFault.TheVariants.{UnknownCommand, MissingValue}
 use Rattle.solver_words.specs.declared.job.Job.{Job}
 use Rattle.solver_words.specs.declared.job.Job.TheVariants.{Solve, Replay, Deal, Rules}
+use Rattle.solver_words.specs.declared.job.MemoWord.TheVariants.{Linked}
 use Rattle.solver_words.specs.declared.job.Source.TheVariants.{File, FromSeed}
-use Rattle.solver_words.specs.declared.options.Kind.{Kind}
-use Rattle.solver_words.specs.declared.options.Kind.TheVariants.{Cache, Nodes, Seed}
+use Rattle.solver_words.specs.declared.options.Setting.{Setting}
+use Rattle.solver_words.specs.declared.options.Setting.TheVariants.{Cache, Nodes, Memo, Seed}
 use Rattle.solver_words.specs.declared.options.Taker.{Taker}
 use Rattle.solver_words.specs.declared.options.Taker.TheVariants.{SolveFile, SolveSeed}
 use Rattle.solver_words.specs.declared.options.Taker.TheVariants as taker
 use Rattle.solver_words.specs.declared.options.Options.{Options}
 use Rattle.solver_words.specs.Numbers.{number_of, number_within, within}
-use Rattle.solver_words.specs.Options.{no_options, kind_at, number_at, with_value, options_from}
+use Rattle.solver_words.specs.Options.{no_options, setting_at, memo_named, value_at, with_value, options_from}
 use Rattle.solver_words.specs.Jobs.{after_name, no_more, names_deal, seed_of, solve_file_of, solve_seed_of, solve_of, replay_of, deal_of, rules_of, job_of, IsWithinLimits}
 use Rattle.solver_words.proofs.Choices.{ok_before}
 
@@ -38,31 +39,35 @@ limits-within low high n (Some m) h =
     by_tests (nat_le low m) (nat_le m high) refl refl h
 
 -- A word that gives a number gives it exactly.
-number_at-is : (at n : ℕ) (number : Option ℕ) → number_at at number ≡ Ok n → number ≡ Some n
-number_at-is at n None h = cc
-number_at-is at n (Some m) h = cc
+value_at-is : (at n : ℕ) (number : Option ℕ) → value_at at number ≡ Ok n → number ≡ Some n
+value_at-is at n None h = cc
+value_at-is at n (Some m) h = cc
 
-limits-number_at : (at low high n : ℕ) (word : List ℕ) → number_at at (number_within low high word) ≡ Ok n → (low ≤ n) × (n ≤ high)
-limits-number_at at low high n word h = limits-within low high n (number_of word) (number_at-is at n _ h)
+limits-value_at : (at low high n : ℕ) (word : List ℕ) → value_at at (number_within low high word) ≡ Ok n → (low ≤ n) × (n ≤ high)
+limits-value_at at low high n word h = limits-within low high n (number_of word) (value_at-is at n _ h)
 
 -- The job that solves with these options has its numbers within their limits.
 abbrev AreWithin : Options → Type 0
-AreWithin given = IsWithinLimits (Solve File (unwrap_or given.cache 100000) (unwrap_or given.nodes 1000000))
+AreWithin given = IsWithinLimits (Solve File (unwrap_or given.cache 100000) (unwrap_or given.nodes 1000000) (unwrap_or given.memo Linked))
 
-limits-with_value : (at : ℕ) (kind : Kind) (given more : Options) (word : List ℕ) → AreWithin given → with_value at kind given word ≡ Ok more
+limits-with_value : (at : ℕ) (setting : Setting) (given more : Options) (word : List ℕ) → AreWithin given → with_value at setting given word ≡ Ok more
     → AreWithin more
 limits-with_value at Cache given more word given_within h =
-    let (n, is_number, rest) = ok_before (number_at at (number_within 1 4000000 word)) _ more h in
-    let limits = limits-number_at at 1 4000000 n word is_number in
+    let (n, is_number, rest) = ok_before (value_at at (number_within 1 4000000 word)) _ more h in
+    let limits = limits-value_at at 1 4000000 n word is_number in
     let same : record given { cache = Some n } ≡ more = cc in
     subst AreWithin same (limits.0, limits.1, given_within.2, given_within.3)
 limits-with_value at Nodes given more word given_within h =
-    let (n, is_number, rest) = ok_before (number_at at (number_within 1 1000000000000 word)) _ more h in
-    let limits = limits-number_at at 1 1000000000000 n word is_number in
+    let (n, is_number, rest) = ok_before (value_at at (number_within 1 1000000000000 word)) _ more h in
+    let limits = limits-value_at at 1 1000000000000 n word is_number in
     let same : record given { nodes = Some n } ≡ more = cc in
     subst AreWithin same (given_within.0, given_within.1, limits.0, limits.1)
+limits-with_value at Memo given more word given_within h =
+    let (memo, is_memo, rest) = ok_before (value_at at (memo_named word)) _ more h in
+    let same : record given { memo = Some memo } ≡ more = cc in
+    subst AreWithin same given_within
 limits-with_value at Seed given more word given_within h =
-    let (n, is_number, rest) = ok_before (number_at at (number_within 0 18446744073709551615 word)) _ more h in
+    let (n, is_number, rest) = ok_before (value_at at (number_within 0 18446744073709551615 word)) _ more h in
     let same : record given { seed = Some n } ≡ more = cc in
     subst AreWithin same given_within
 
@@ -70,25 +75,25 @@ limits-options_from : (taker : Taker) (at : ℕ) (given last : Options) (words :
     → AreWithin last
 limits-options_from taker at given last [] given_within h = let same : given ≡ last = cc in subst AreWithin same given_within
 limits-options_from taker at given last (option ∷ []) given_within h =
-    let (kind, is_kind, never) = ok_before (kind_at taker at option given) _ last h in
+    let (setting, is_setting, never) = ok_before (setting_at taker at option given) _ last h in
     absurd (let no : Err (MissingValue at) ≡ Ok last = never in cc)
 limits-options_from taker at given last (option ∷ value ∷ rest) given_within h =
-    let (kind, is_kind, h1) = ok_before (kind_at taker at option given) _ last h in
-    let (more, is_more, h2) = ok_before (with_value (at + 1) kind given value) _ last h1 in
-    limits-options_from taker (at + 2) more last rest (limits-with_value (at + 1) kind given more value given_within is_more) h2
+    let (setting, is_setting, h1) = ok_before (setting_at taker at option given) _ last h in
+    let (more, is_more, h2) = ok_before (with_value (at + 1) setting given value) _ last h1 in
+    limits-options_from taker (at + 2) more last rest (limits-with_value (at + 1) setting given more value given_within is_more) h2
 
 limits-solve_file_of : (words : List (List ℕ)) (job : Job) → solve_file_of words ≡ Ok job → IsWithinLimits job
 limits-solve_file_of words job h =
     let (one, is_one, h1) = ok_before (after_name words) _ job h in
     let (given, is_given, h2) = ok_before (options_from SolveFile 3 no_options one) _ job h1 in
-    let same : Solve File (unwrap_or given.cache 100000) (unwrap_or given.nodes 1000000) ≡ job = cc in
+    let same : Solve File (unwrap_or given.cache 100000) (unwrap_or given.nodes 1000000) (unwrap_or given.memo Linked) ≡ job = cc in
     subst IsWithinLimits same (limits-options_from SolveFile 3 no_options given one (lit≤ tt, lit≤ tt, lit≤ tt, lit≤ tt) is_given)
 
 limits-solve_seed_of : (words : List (List ℕ)) (job : Job) → solve_seed_of words ≡ Ok job → IsWithinLimits job
 limits-solve_seed_of words job h =
     let (given, is_given, h1) = ok_before (options_from SolveSeed 2 no_options words) _ job h in
     let (seed, is_seed, h2) = ok_before (seed_of given.seed) _ job h1 in
-    let same : Solve (FromSeed seed) (unwrap_or given.cache 100000) (unwrap_or given.nodes 1000000) ≡ job = cc in
+    let same : Solve (FromSeed seed) (unwrap_or given.cache 100000) (unwrap_or given.nodes 1000000) (unwrap_or given.memo Linked) ≡ job = cc in
     subst IsWithinLimits same (limits-options_from SolveSeed 2 no_options given words (lit≤ tt, lit≤ tt, lit≤ tt, lit≤ tt) is_given)
 
 -- where one of two readings is chosen, what holds of both holds of it

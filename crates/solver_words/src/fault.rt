@@ -1,4 +1,4 @@
-// What can be wrong with words, and how it is printed.
+//! What can be wrong with words, and how it is printed.
 ghost use Rattle.std.specs.Prelude.{Some};
 ghost use Rattle.solver_words.specs.FaultText.{word_fault_text};
 

@@ -1,4 +1,4 @@
-// The jobs that words can name.
+//! The jobs that words can name.
 
 /// Where the deal to be solved comes from.
 #[derive(Clone, Copy, Debug, PartialEq, Eq)]
@@ -9,15 +9,25 @@ pub enum Source {
     FromSeed(u64),
 }
 
+/// Which memo the search asks. No verdict depends on it.
+#[derive(Clone, Copy, Debug, PartialEq, Eq)]
+pub enum MemoWord {
+    /// One table of keys, linked by index.
+    Linked,
+    /// A set of the current path's keys beside a cache of the finished ones.
+    Lru,
+}
+
 /// What is to be done. The file names are the words 1 (the rules), 2 (the deal) and 3 (the line).
 #[derive(Clone, Copy, Debug, PartialEq, Eq)]
 pub enum Job {
     /// Solves the deal under the rules. At most `cache` finished boards are remembered, 1 to 4,000,000,
-    /// and at most `nodes` boards are expanded, 1 to 1,000,000,000,000.
+    /// and at most `nodes` boards are expanded, 1 to 1,000,000,000,000. The boards are remembered in `memo`.
     Solve {
         source: Source,
         cache: u32,
         nodes: u64,
+        memo: MemoWord,
     },
     /// Replays the line from the deal under the rules.
     Replay,

@@ -1,4 +1,4 @@
-// Numbers in decimal digits, with no sign and no leading zero.
+//! Numbers in decimal digits, with no sign and no leading zero.
 ghost use Rattle.std.specs.Prelude.{◌≡◌, ◌≤◌, IfSome};
 ghost use Rattle.solver_words.specs.Numbers.{number_of, number_within as number_within_of};
 

@@ -1,10 +1,10 @@
-// The options of a command.
+//! The options of a command.
 ghost use Rattle.std.specs.Prelude.{◌≡◌, ◌+◌, ◌<◌, ◌^◌, length};
-ghost use Rattle.solver_words.specs.Options.{has_option, kind_named as kind_named_of, kind_of, is_given, kind_at, with_value as with_value_of, options_from, no_options};
+ghost use Rattle.solver_words.specs.Options.{has_option, setting_named as setting_named_of, memo_named as memo_named_of, setting_of, is_given, setting_at, with_value as with_value_of, options_from, no_options};
 ghost use Rattle.solver_words.specs.Texts.{texts};
 
-use crate::WordFault;
 use crate::number::number_within;
+use crate::{MemoWord, WordFault};
 
 const MOST_CACHE: u64 = 4_000_000;
 
@@ -12,9 +12,10 @@ const MOST_NODES: u64 = 1_000_000_000_000;
 
 /// An option, by its word.
 #[derive(Clone, Copy, Debug, PartialEq, Eq)]
-pub enum Kind {
+pub enum Setting {
     Cache,
     Nodes,
+    Memo,
     Seed,
 }
 
@@ -34,87 +35,107 @@ pub enum Taker {
 pub struct Options {
     pub cache: Option<u32>,
     pub nodes: Option<u64>,
+    pub memo: Option<MemoWord>,
     pub seed: Option<u64>,
 }
 
-fn kind_named(word: &str) -> Option<Kind>
-    ensures { result ≡ kind_named_of word.now }
+fn setting_named(word: &str) -> Option<Setting>
+    ensures { result ≡ setting_named_of word.now }
 {
     match word {
-        "--cache" => Some(Kind::Cache),
-        "--nodes" => Some(Kind::Nodes),
-        "--seed" => Some(Kind::Seed),
+        "--cache" => Some(Setting::Cache),
+        "--nodes" => Some(Setting::Nodes),
+        "--memo" => Some(Setting::Memo),
+        "--seed" => Some(Setting::Seed),
+        _ => None,
+    }
+}
+
+fn memo_named(word: &str) -> Option<MemoWord>
+    ensures { result ≡ memo_named_of word.now }
+{
+    match word {
+        "linked" => Some(MemoWord::Linked),
+        "lru" => Some(MemoWord::Lru),
         _ => None,
     }
 }
 
 impl Taker {
-    fn has_option(self, kind: Kind) -> bool
-        ensures { result ≡ has_option self kind }
+    fn has_option(self, setting: Setting) -> bool
+        ensures { result ≡ has_option self setting }
     {
         match self {
-            Taker::SolveFile => kind != Kind::Seed,
+            Taker::SolveFile => setting != Setting::Seed,
             Taker::SolveSeed => true,
-            Taker::Deal => kind == Kind::Seed,
+            Taker::Deal => setting == Setting::Seed,
         }
     }
 }
 
 // The option that the word names, if the command has it.
-fn kind_of(taker: Taker, word: &str) -> Option<Kind>
-    ensures { result ≡ kind_of taker word.now }
+fn setting_of(taker: Taker, word: &str) -> Option<Setting>
+    ensures { result ≡ setting_of taker word.now }
 {
-    match kind_named(word) {
-        Some(kind) if taker.has_option(kind) => Some(kind),
+    match setting_named(word) {
+        Some(setting) if taker.has_option(setting) => Some(setting),
         _ => None,
     }
 }
 
 impl Options {
-    fn has(&self, kind: Kind) -> bool
-        ensures { result ≡ is_given kind self.now }
+    fn has(&self, setting: Setting) -> bool
+        ensures { result ≡ is_given setting self.now }
     {
-        match kind {
-            Kind::Cache => self.cache.is_some(),
-            Kind::Nodes => self.nodes.is_some(),
-            Kind::Seed => self.seed.is_some(),
+        match setting {
+            Setting::Cache => self.cache.is_some(),
+            Setting::Nodes => self.nodes.is_some(),
+            Setting::Memo => self.memo.is_some(),
+            Setting::Seed => self.seed.is_some(),
         }
     }
 }
 
 // The option of the word at the place, unless it is unknown or was given.
-fn read_kind(taker: Taker, at: u32, word: &str, given: &Options) -> Result<Kind, WordFault>
-    ensures { result ≡ kind_at taker at word.now given.now }
+fn read_setting(taker: Taker, at: u32, word: &str, given: &Options) -> Result<Setting, WordFault>
+    ensures { result ≡ setting_at taker at word.now given.now }
 {
-    let Some(kind) = kind_of(taker, word) else {
+    let Some(setting) = setting_of(taker, word) else {
         return Err(WordFault::UnknownOption(at));
     };
-    if given.has(kind) {
+    if given.has(setting) {
         return Err(WordFault::RepeatedOption(at));
     }
-    Ok(kind)
+    Ok(setting)
 }
 
 // The options with this one too, whose value is the word at the place.
-fn with_value(at: u32, kind: Kind, given: Options, word: &str) -> Result<Options, WordFault>
-    ensures { result ≡ with_value_of at kind given word.now }
+fn with_value(at: u32, setting: Setting, given: Options, word: &str) -> Result<Options, WordFault>
+    ensures { result ≡ with_value_of at setting given word.now }
 {
-    match kind {
-        Kind::Cache => match number_within(1, MOST_CACHE, word) {
+    match setting {
+        Setting::Cache => match number_within(1, MOST_CACHE, word) {
             Some(cache) => Ok(Options {
                 cache: Some(cache as u32),
                 ..given
             }),
             None => Err(WordFault::BadOptionValue(at)),
         },
-        Kind::Nodes => match number_within(1, MOST_NODES, word) {
+        Setting::Nodes => match number_within(1, MOST_NODES, word) {
             Some(nodes) => Ok(Options {
                 nodes: Some(nodes),
                 ..given
             }),
             None => Err(WordFault::BadOptionValue(at)),
         },
-        Kind::Seed => match number_within(0, u64::MAX, word) {
+        Setting::Memo => match memo_named(word) {
+            Some(memo) => Ok(Options {
+                memo: Some(memo),
+                ..given
+            }),
+            None => Err(WordFault::BadOptionValue(at)),
+        },
+        Setting::Seed => match number_within(0, u64::MAX, word) {
             Some(seed) => Ok(Options {
                 seed: Some(seed),
                 ..given
@@ -133,15 +154,16 @@ pub fn read_options(taker: Taker, first: u32, words: &[String]) -> Result<Option
     let mut given = Options {
         cache: None,
         nodes: None,
+        memo: None,
         seed: None,
     };
     let mut rest = words;
     while let Some((option, more)) = rest.split_first() {
-        let kind = read_kind(taker, at, option.as_str(), &given)?;
+        let setting = read_setting(taker, at, option.as_str(), &given)?;
         let Some((value, after)) = more.split_first() else {
             return Err(WordFault::MissingValue(at));
         };
-        given = with_value(at + 1, kind, given, value.as_str())?;
+        given = with_value(at + 1, setting, given, value.as_str())?;
         rest = after;
         at += 2;
     }

@@ -1,6 +1,52 @@
-use crate::{Job, Source, WordFault, read_words};
+//! Lines of words, each with the job or the fault that it names.
+use crate::{Job, WordFault, read_words};
 use std::alloc::{AllocError, Global};
 use std::test::Fail;
+
+/// The words, each after a blank, then ` = ` and what they name.
+const ROWS: &str = "solve R D = solve File 100000 1000000 Linked
+solve -x  = solve File 100000 1000000 Linked
+solve R D --nodes 1 = solve File 100000 1 Linked
+solve R D --nodes 1000000000000 = solve File 100000 1000000000000 Linked
+solve R D --cache 1 = solve File 1 1000000 Linked
+solve R D --cache 4000000 = solve File 4000000 1000000 Linked
+solve R D --nodes 5 --memo lru --cache 7 = solve File 7 5 Lru
+solve R D --memo linked = solve File 100000 1000000 Linked
+solve R --seed 0 = solve FromSeed(0) 100000 1000000 Linked
+solve R --memo lru --seed 18446744073709551615 = solve FromSeed(18446744073709551615) 100000 1000000 Lru
+deal R --seed 42 = Deal { seed: 42 }
+replay R D L = Replay
+rules - = Rules
+ = unknown-command
+Solve R D = unknown-command
+solve --seed 1 = missing-name
+solve -- D = missing-name
+replay R D --nodes 5 = missing-name
+deal = missing-name
+solve R --nodes 5 = missing-seed
+deal R = missing-seed
+solve R --nodes = missing-value 2
+solve R --seed 18446744073709551616 = bad-option-value 3
+deal R --nodes 5 = unknown-option 2
+solve R D L = unknown-option 3
+solve R D --seed 1 = unknown-option 3
+solve R D --nodes 5 --what 1 = unknown-option 5
+deal R --memo lru = unknown-option 2
+rules R --memo lru = unknown-option 2
+solve R D --nodes 5 --nodes = repeated-option 5
+solve R D --memo lru --cache 1 --memo = repeated-option 7
+solve R D --cache 5 --memo = missing-value 5
+solve R D --nodes 0 = bad-option-value 4
+solve R D --nodes 05 = bad-option-value 4
+solve R D --nodes +5 = bad-option-value 4
+solve R D --nodes  = bad-option-value 4
+solve R D --nodes 1000000000001 = bad-option-value 4
+solve R D --nodes x --what = bad-option-value 4
+solve R D --cache 4000001 = bad-option-value 4
+solve R D --cache 4294967297 = bad-option-value 4
+solve R D --memo LRU = bad-option-value 4
+solve R D --memo  = bad-option-value 4
+solve R D --nodes 5 --cache 0 = bad-option-value 6";
 
 // The pieces between blanks. An empty line has one piece, which is empty.
 fn split(alloc: Global, line: &str) -> Result<Vec<String>, AllocError> {
@@ -11,159 +57,33 @@ fn split(alloc: Global, line: &str) -> Result<Vec<String>, AllocError> {
     Ok(words)
 }
 
-#[test]
-fn reads_each_command(rt: HostRuntime) -> Result<(), Fail> {
-    let solve = |cache, nodes| {
-        Ok(Job::Solve {
-            source: Source::File,
-            cache,
-            nodes,
-        })
-    };
-    let seeded = |seed, cache, nodes| {
-        Ok(Job::Solve {
-            source: Source::FromSeed(seed),
-            cache,
-            nodes,
-        })
-    };
-    for (line, want) in [
-        ("solve R D", solve(100_000, 1_000_000)),
-        ("solve -x ", solve(100_000, 1_000_000)),
-        ("solve R D --nodes 1", solve(100_000, 1)),
-        (
-            "solve R D --nodes 1000000000000",
-            solve(100_000, 1_000_000_000_000),
-        ),
-        ("solve R D --cache 1", solve(1, 1_000_000)),
-        ("solve R D --cache 4000000", solve(4_000_000, 1_000_000)),
-        ("solve R D --cache 7 --nodes 5", solve(7, 5)),
-        ("solve R D --nodes 5 --cache 7", solve(7, 5)),
-        ("solve R --seed 0", seeded(0, 100_000, 1_000_000)),
-        (
-            "solve R --nodes 5 --seed 18446744073709551615 --cache 7",
-            seeded(18_446_744_073_709_551_615, 7, 5),
-        ),
-        ("deal R --seed 42", Ok(Job::Deal { seed: 42 })),
-        ("replay R D L", Ok(Job::Replay)),
-        ("rules R", Ok(Job::Rules)),
-        ("rules -", Ok(Job::Rules)),
-    ] {
-        let words = split(rt.alloc(), line)?;
-        assert!(rt; words.len() < 100);
-        assert_eq!(rt; read_words(&words), want, "at {line}");
+fn text_of(alloc: Global, read: Result<Job, WordFault>) -> Result<String, AllocError> {
+    match read {
+        Ok(
+            Job::Solve {
+                source,
+                cache,
+                nodes,
+                memo,
+            },
+        ) => format!(in alloc; "solve {source:?} {cache} {nodes} {memo:?}"),
+        Ok(job) => format!(in alloc; "{job:?}"),
+        Err(fault) => format!(in alloc; "{fault}"),
     }
-    Ok(())
 }
 
 #[test]
-fn refuses_with_the_first_fault(rt: HostRuntime) -> Result<(), Fail> {
+fn each_line_names_its_job_or_its_fault(rt: HostRuntime) -> Result<(), Fail> {
     assert_eq!(rt; read_words(&[]), Err(WordFault::NoCommand));
-    for (line, want) in [
-        ("", WordFault::UnknownCommand),
-        ("Solve R D", WordFault::UnknownCommand),
-        ("Deal R --seed 1", WordFault::UnknownCommand),
-        ("solve", WordFault::MissingName),
-        ("solve --seed 1", WordFault::MissingName),
-        ("solve R", WordFault::MissingSeed),
-        ("solve R --nodes 5", WordFault::MissingSeed),
-        ("solve R --nodes", WordFault::MissingValue(2)),
-        ("solve R --seed 1 --seed 1", WordFault::RepeatedOption(4)),
-        ("solve R --seed x", WordFault::BadOptionValue(3)),
-        ("solve R --nodes 0 --seed 1", WordFault::BadOptionValue(3)),
-        (
-            "solve R --seed 18446744073709551616",
-            WordFault::BadOptionValue(3),
-        ),
-        ("deal", WordFault::MissingName),
-        ("deal R", WordFault::MissingSeed),
-        ("deal R D", WordFault::UnknownOption(2)),
-        ("deal R --nodes 5", WordFault::UnknownOption(2)),
-        ("deal R --seed", WordFault::MissingValue(2)),
-        ("rules R --seed 5", WordFault::UnknownOption(2)),
-        ("solve -- D", WordFault::MissingName),
-        ("replay R D", WordFault::MissingName),
-        ("replay R D --nodes 5", WordFault::MissingName),
-        ("rules --x", WordFault::MissingName),
-        ("solve R D L", WordFault::UnknownOption(3)),
-        ("solve R D --seed 1", WordFault::UnknownOption(3)),
-        (
-            "solve R D --nodes 5 --narrow 1",
-            WordFault::UnknownOption(5),
-        ),
-        ("replay R D L M", WordFault::UnknownOption(4)),
-        ("rules R --nodes 5", WordFault::UnknownOption(2)),
-        ("solve R D --nodes 5 --nodes", WordFault::RepeatedOption(5)),
-        ("solve R D --nodes", WordFault::MissingValue(3)),
-        ("solve R D --nodes 0", WordFault::BadOptionValue(4)),
-        ("solve R D --nodes 05", WordFault::BadOptionValue(4)),
-        ("solve R D --nodes +5", WordFault::BadOptionValue(4)),
-        ("solve R D --nodes ", WordFault::BadOptionValue(4)),
-        (
-            "solve R D --nodes 1000000000001",
-            WordFault::BadOptionValue(4),
-        ),
-        (
-            "solve R D --nodes 18446744073709551621",
-            WordFault::BadOptionValue(4),
-        ),
-        ("solve R D --nodes x --what", WordFault::BadOptionValue(4)),
-        ("solve R --cache 5", WordFault::MissingSeed),
-        ("solve R D --Cache 5", WordFault::UnknownOption(3)),
-        ("replay R D L --cache 5", WordFault::UnknownOption(4)),
-        ("rules R --cache 5", WordFault::UnknownOption(2)),
-        ("solve R D --cache 1 --cache", WordFault::RepeatedOption(5)),
-        (
-            "solve R D --cache 1 --cache 2",
-            WordFault::RepeatedOption(5),
-        ),
-        (
-            "solve R D --cache 1 --nodes 5 --cache",
-            WordFault::RepeatedOption(7),
-        ),
-        (
-            "solve R D --nodes 5 --cache 1 --nodes 6",
-            WordFault::RepeatedOption(7),
-        ),
-        ("solve R D --cache", WordFault::MissingValue(3)),
-        ("solve R D --nodes 5 --cache", WordFault::MissingValue(5)),
-        ("solve R D --cache 5 --nodes", WordFault::MissingValue(5)),
-        ("solve R D --cache --nodes 5", WordFault::BadOptionValue(4)),
-        ("solve R D --cache 0", WordFault::BadOptionValue(4)),
-        ("solve R D --cache 05", WordFault::BadOptionValue(4)),
-        ("solve R D --cache +5", WordFault::BadOptionValue(4)),
-        ("solve R D --cache ", WordFault::BadOptionValue(4)),
-        ("solve R D --cache 4000001", WordFault::BadOptionValue(4)),
-        ("solve R D --cache 4294967297", WordFault::BadOptionValue(4)),
-        (
-            "solve R D --nodes 5 --cache 0",
-            WordFault::BadOptionValue(6),
-        ),
-        (
-            "solve R D --cache 0 --nodes 0",
-            WordFault::BadOptionValue(4),
-        ),
-    ] {
+    for row in ROWS.split('\n') {
+        let (line, want) = row.split_once(" = ").ok_or("a row with no answer")?;
         let words = split(rt.alloc(), line)?;
         assert!(rt; words.len() < 100);
-        assert_eq!(rt; read_words(&words), Err(want), "at {line}");
-    }
-    Ok(())
-}
-
-#[test]
-fn prints_each_fault(rt: HostRuntime) -> Result<(), Fail> {
-    for (fault, want) in [
-        (WordFault::NoCommand, "no-command"),
-        (WordFault::UnknownCommand, "unknown-command"),
-        (WordFault::MissingName, "missing-name"),
-        (WordFault::UnknownOption(3), "unknown-option 3"),
-        (WordFault::RepeatedOption(5), "repeated-option 5"),
-        (WordFault::MissingValue(3), "missing-value 3"),
-        (WordFault::BadOptionValue(4), "bad-option-value 4"),
-        (WordFault::MissingSeed, "missing-seed"),
-    ] {
-        assert_eq!(rt; format!(in rt.alloc(); "{fault}")?.as_str(), want);
+        assert_eq!(rt;
+            text_of(rt.alloc(), read_words(&words))?.as_str(),
+            want,
+            "at {row}"
+        );
     }
     Ok(())
 }

@@ -1,10 +1,10 @@
-// The words of a command line.
+//! The words of a command line.
 ghost use Rattle.std.specs.Prelude.{◌≡◌, ◌+◌, ◌<◌, ◌≤◌, ◌^◌, length, Ok, Err, IfOk, IfErr};
 ghost use Rattle.solver_words.specs.Texts.{texts};
 ghost use Rattle.solver_words.specs.Jobs.{is_name as is_name_of, after_name as after_name_of, no_more as no_more_of, names_deal as names_deal_of, solve_file_of, solve_seed_of, solve_of, replay_of, deal_of, rules_of, job_of, name_count, IsWithinLimits};
 
 use crate::options::{Taker, read_options};
-use crate::{Job, Source, WordFault};
+use crate::{Job, MemoWord, Source, WordFault};
 
 const DEFAULT_CACHE: u32 = 100_000;
 
@@ -60,6 +60,7 @@ fn solve_file(words: &[String]) -> Result<Job, WordFault>
         source: Source::File,
         cache: given.cache.unwrap_or(DEFAULT_CACHE),
         nodes: given.nodes.unwrap_or(DEFAULT_NODES),
+        memo: given.memo.unwrap_or(MemoWord::Linked),
     })
 }
 
@@ -76,6 +77,7 @@ fn solve_seed(words: &[String]) -> Result<Job, WordFault>
         source: Source::FromSeed(seed),
         cache: given.cache.unwrap_or(DEFAULT_CACHE),
         nodes: given.nodes.unwrap_or(DEFAULT_NODES),
+        memo: given.memo.unwrap_or(MemoWord::Linked),
     })
 }
 

@@ -1,5 +1,5 @@
 -- The laws on stock moves and on the steps of a search, from playable rules and boards that belong to them.
-use Rattle.std.proofs.Common.{◌≡◌, ℕ, ◌+◌, ◌≤◌, Bool, true, false, not, refl, IsTrue, List, [], ◌∷◌, ◌++◌, length, arith, Some, None}
+use Rattle.std.proofs.Common.{◌≡◌, ℕ, ◌+◌, Bool, true, false, not, refl, IsTrue, List, [], ◌∷◌, length, arith, Some, None}
 use Rattle.std.specs.Prelude.{Option}
 use Rattle.game_rules.specs.declared.RuleParts.{RuleParts}
 use Rattle.game_rules.specs.declared.Move.{Move}

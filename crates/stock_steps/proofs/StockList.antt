@@ -11,8 +11,8 @@ use Rattle.game_rules.specs.StockMoves.{IsNextByStock, after_stock_move, after_s
 use Rattle.stock_steps.specs.Steps.{is_from_waste, stock_steps, stock_steps_after, steps_from, most_stock_moves, waste_carries}
 use Rattle.stock_steps.specs.StockSteps.{IsStockRun, IsWholeRun, IsAlongRun, StockStep}
 use Rattle.stock_steps.specs.declared.Step.{Step}
-use Rattle.stock_steps.proofs.Members.{Mem, Distinct, Contains-from_Mem, Mem-from_Contains, Mem-left, Mem-right, Mem-append, Mem-map, Mem-from_map, Mem-filter, Mem-from_filter, Distinct-append, Distinct-map, Distinct-filter, AreApart, AreApart-from_Distinct}
-use Rattle.stock_steps.proofs.LegalListed.{legal_listed, listed_legal, legal_once}
+use Rattle.stock_steps.proofs.Members.{Mem, Contains-from_Mem, Mem-from_Contains, Mem-left, Mem-right, Mem-append, Mem-map, Mem-from_map, Mem-filter, Mem-from_filter}
+use Rattle.stock_steps.proofs.LegalListed.{legal_listed, listed_legal}
 use Rattle.game_rules.proofs.StockMoves.{after_stock_moves-suc}
 use Rattle.stock_steps.proofs.StockKin.{next_is}
 use Rattle.stock_steps.proofs.StockRuns.{Along, along, steps_along, stock_moves-end}
@@ -232,35 +232,3 @@ is_by_target rules board step false e draws = (
 pub stock_steps-are : (rules : RuleParts) (board : Board) (step : Step) → 1 ≤ rules.draw
     → Contains (stock_steps rules board) step ↔ StockStep rules board step
 stock_steps-are rules board step draws = is_by_target rules board step (deals_to_waste rules.target) refl draws
-
--- each step once
-
-pub steps_apart : (deals : ℕ) (moves : List Move) → Distinct moves → Distinct (steps_from deals moves)
-steps_apart deals moves h = Distinct-map (λ (m : Move). record { deals = deals; last = m }) moves (λ a b e. ap (λ (s : Step). s.last) e) h
-
-along_apart : (rules : RuleParts) (last deals : ℕ) (board : Board) → Distinct (steps_along rules last deals board)
-along_apart rules zero deals board =
-    steps_apart deals (waste_carries rules board) (Distinct-filter is_from_waste (legal_moves rules board) (legal_once rules board))
-along_apart rules (suc last) deals board =
-    Distinct-append (steps_from deals (waste_carries rules board)) (steps_along rules last (deals + 1) (after_stock_move rules board))
-    (steps_apart deals (waste_carries rules board) (Distinct-filter is_from_waste (legal_moves rules board) (legal_once rules board)))
-    (along_apart rules last (deals + 1) (after_stock_move rules board))
-    (λ step left right.
-    let first : (step.deals ≡ deals) × Mem step.last (waste_carries rules board) = Mem-from_steps deals step (waste_carries rules board) left in
-    let later : IsStepAt rules last (deals + 1) (after_stock_move rules board) step = Mem-from_along rules last (deals + 1) (after_stock_move rules board) step right in
-    omega (arith, first.0, later.is_deals))
-
-pub stock_steps_after-apart : (rules : RuleParts) (board : Board) → 1 ≤ rules.draw → IsTrue (deals_to_waste rules.target)
-    → AreApart (stock_steps_after rules (most_stock_moves board) 0 [] board)
-stock_steps_after-apart rules board draws to_waste =
-    let found : Along rules (most_stock_moves board) 0 [] board = stock_along rules board draws to_waste in
-    AreApart-from_Distinct (stock_steps_after rules (most_stock_moves board) 0 [] board)
-    (subst (λ (xs : List Step). Distinct xs) (sym found.is_list) (along_apart rules found.last 0 board))
-
-apart_by_target : (rules : RuleParts) (board : Board) (t : Bool) → deals_to_waste rules.target ≡ t → 1 ≤ rules.draw
-    → AreApart (stock_steps rules board)
-apart_by_target rules board true e draws = rw e (stock_steps_after-apart rules board draws e)
-apart_by_target rules board false e draws = rw e (AreApart-from_Distinct [] tt)
-
-pub stock_steps-apart : (rules : RuleParts) (board : Board) → 1 ≤ rules.draw → AreApart (stock_steps rules board)
-stock_steps-apart rules board draws = apart_by_target rules board (deals_to_waste rules.target) refl draws

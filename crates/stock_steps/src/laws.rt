@@ -19,7 +19,7 @@ ghost use Rattle.stock_steps.specs.StockSteps.{ComesAgain, Commute, HasWinningSt
 pub fn stock_steps_are_listed()
     ensures exact { (rules : RuleParts) (board : Board) (step : Step) → IsPlayable rules
         → Contains (stock_steps rules board) step ↔ StockStep rules board step }
-    ensures once { (rules : RuleParts) (board : Board) → IsPlayable rules → AllPairs (λ a b. a ≢ b) (stock_steps rules board) }
+    ensures once { (rules : RuleParts) (board : Board) → AllPairs (λ a b. a ≢ b) (stock_steps rules board) }
     ensures order { (rules : RuleParts) (board : Board) → IsPlayable rules → IsTrue (deals_to_waste rules.target)
         → IsAlongRun rules board (stock_steps rules board) }
 {}
@@ -73,7 +73,7 @@ pub fn steps_are_lines()
         → CanBeMade rules board step → Belongs rules (after_step rules board step) }
     ensures made { (rules : RuleParts) (board : Board) (step : Step) → IsPlayable rules
         → Contains (steps rules board) step → CanBeMade rules board step }
-    ensures once { (rules : RuleParts) (board : Board) → IsPlayable rules → AllPairs (λ a b. a ≢ b) (steps rules board) }
+    ensures once { (rules : RuleParts) (board : Board) → AllPairs (λ a b. a ≢ b) (steps rules board) }
     ensures wins { (rules : RuleParts) (n : ℕ) (board : Board) (step : Step) → CanBeMade rules board step
         → Wins rules n (after_step rules board step) → Wins rules (length (expand rules board step) + n) board }
 {}

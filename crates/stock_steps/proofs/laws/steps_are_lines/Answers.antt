@@ -10,7 +10,7 @@ pub returns-clause-made : goal.returns-clause-made
 returns-clause-made c = λ rules board step playable. steps-made rules board step (playable_draw rules playable)
 
 pub returns-clause-once : goal.returns-clause-once
-returns-clause-once c = λ rules board playable. steps-apart rules board (playable_draw rules playable)
+returns-clause-once c = steps-apart
 
 pub returns-clause-wins : goal.returns-clause-wins
 returns-clause-wins c = wins_by_step

@@ -1,9 +1,7 @@
-use Rattle.std.proofs.Common.{◌≡◌, ◌≢◌, ◌++◌, subst}
+use Rattle.std.proofs.Common.{◌≡◌, ◌++◌, subst}
 use Rattle.std.specs.Prelude.{OnOk}
 use Rattle.packed_state.specs.Packed.{board_of}
-use Rattle.std.specs.List.{AllPairs}
 use Rattle.stock_steps.specs.Steps.{steps}
-use Rattle.stock_steps.proofs.StepLines.{playable_draw}
 use Rattle.stock_steps.proofs.StepsOnce.{steps-apart}
 use Rattle.search_space.specs.Plain.{Standing}
 use Rattle.search_space.proofs.space.PlainSpaceSpace.steps.Goals as goal
@@ -14,6 +12,4 @@ returns-clause-ok c =
     c.self.view_is c.list_steps.ensures.listed
 
 pub returns-clause-differ : goal.returns-clause-differ
-returns-clause-differ c =
-    subst (λ (s : Standing). AllPairs (λ a b. a ≢ b) (steps s.rules (board_of s.packed))) c.self.view_is
-    (steps-apart c.self.inside.rules.now (board_of c.self.inside.packed) (playable_draw c.self.inside.rules.now c.self.invariant.0))
+returns-clause-differ c = steps-apart c.args.self.now.rules (board_of c.args.self.now.packed)
