@@ -6,3 +6,7 @@ pub mod Reached
 pub mod Alike
 pub mod Complete
 pub mod Agreeing
+pub mod NarrowSteps
+pub mod NarrowReached
+pub mod NarrowAlike
+pub mod NarrowReturning

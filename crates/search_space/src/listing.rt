@@ -43,7 +43,7 @@ fn deals_to_waste(rules: &Rules) -> bool
 }
 
 /// Appends a move as a step of its own.
-fn push_single(last: Move, out: &mut Vec<Step>) -> Result<(), NoMemory>
+pub(crate) fn push_single(last: Move, out: &mut Vec<Step>) -> Result<(), NoMemory>
     ensures { OnOk result (out.new.items ≡ out.old.items ++ steps_from 0 (last ∷ [])) }
 {
     match out.push(Step { deals: 0, last }) {
