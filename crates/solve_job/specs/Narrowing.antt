@@ -2,7 +2,7 @@
 use Rattle.std.specs.Prelude.{ℕ, ◌≢◌}
 use Rattle.game_rules.specs.declared.RuleParts.{RuleParts}
 use Rattle.game_rules.specs.Board.{Board}
-use Rattle.search_space.specs.Game.{narrow_game}
+use Rattle.search_space.specs.Narrow.{narrow_game}
 use Rattle.solve_job.specs.declared.limits.Limits.{Limits}
 use Rattle.solve_job.specs.declared.narrow_search.Narrowed.{Narrowed}
 use Rattle.solve_job.specs.declared.narrow_search.Narrowed.TheVariants.{Won, Passed}

@@ -11,7 +11,8 @@ use Rattle.game_rules.specs.Board.{Board}
 use Rattle.game_rules.specs.Winning.{Won, Line, Winnable}
 use Rattle.stock_steps.specs.declared.Step.{Step}
 use Rattle.stock_steps.specs.Steps.{after_steps, expand_trail}
-use Rattle.search_space.specs.Game.{plain_game, narrow_game}
+use Rattle.search_space.specs.Game.{plain_game}
+use Rattle.search_space.specs.Narrow.{narrow_game}
 use Rattle.line_printer.specs.declared.verdict.Verdict.{Verdict}
 use Rattle.line_printer.specs.declared.verdict.Verdict.TheVariants as verdict
 use Rattle.solve_job.specs.declared.limits.Limits.{Limits}

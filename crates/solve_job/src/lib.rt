@@ -23,12 +23,11 @@ ghost use Rattle.solve_job.specs.Verdicts.{IsVerdict, IsDecided, IsSmall};
 
 use card_piles::NoMemory;
 use game_model::{Board, Rules};
+pub use limits::{Limits, MemoKind};
 use line_printer::Verdict;
 use narrow_search::{Narrowed, search_narrow};
 use plain_search::search_plain;
 use std::alloc::Global;
-
-pub use limits::{Limits, MemoKind};
 
 /// Searches for a line to a won board: first as the limits restrict it, if they do, and then, unless that found a win,
 /// with every step that may be needed. Only the plain search says that no line wins, or that it does not know.

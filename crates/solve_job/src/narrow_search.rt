@@ -49,6 +49,7 @@ pub fn search_narrow(
             let line = line_of(alloc, rules, start, trail.items())?;
             Ok(Narrowed::Won { line, nodes })
         }
-        Found::Exhausted | Found::SpentAll => Ok(Narrowed::Passed { nodes }),
+        Found::Exhausted => Ok(Narrowed::Passed { nodes }),
+        Found::SpentAll => Ok(Narrowed::Passed { nodes }),
     }
 }

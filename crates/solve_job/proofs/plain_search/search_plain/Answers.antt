@@ -6,7 +6,8 @@ use Rattle.game_rules.specs.Board.{Board}
 use Rattle.game_rules.specs.Winning.{Won}
 use Rattle.stock_steps.specs.declared.Step.{Step}
 use Rattle.stock_steps.specs.Steps.{CanAllBeMade, expand_trail, steps}
-use Rattle.search_space.specs.Game.{plain_game, narrow_game}
+use Rattle.search_space.specs.Game.{plain_game}
+use Rattle.search_space.specs.Narrow.{narrow_game}
 use Rattle.search_space.proofs.Agreeing.{agrees, keyed_game}
 use Rattle.solve_job.specs.declared.limits.Limits.{Limits}
 use Rattle.solve_job.specs.Verdicts.{FindsWin, IsPassed, IsUndecided}
@@ -42,7 +43,7 @@ returns-in_ok-line_of-in-Won-clause-verdict c =
     let wins = winnable rules start c.args.limits.now.cache c.args.limits.now.nodes c.in-Ok.searched.nodes agree c.in-Ok.ensures.within
     c.in-Won.trail c.parts.ensures.playable answer in
     let finds = subst (λ line. FindsWin (plain_game rules) rules start c.args.limits.now.cache c.args.limits.now.nodes line c.in-Ok.searched.nodes)
-        (sym (c.in_ok-line_of-in-Won.ensures ∙ ap (expand_trail rules start) c.items.ensures)) wins in
+    (sym (c.in_ok-line_of-in-Won.ensures ∙ ap (expand_trail rules start) c.items.ensures)) wins in
     inl (record {
       passed = c.requires.passed;
       some_node = λ restricted. won_start rules (plain_game rules) start c.args.limits.now.cache c.args.limits.now.nodes _ c.in-Ok.searched.nodes finds
