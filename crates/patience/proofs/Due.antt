@@ -22,10 +22,12 @@ use Rattle.line_printer.specs.LineFile.{line_of}
 use Rattle.win_replay.specs.declared.Replayed.{Replayed}
 use Rattle.win_replay.specs.declared.Replayed.TheVariants as replayed
 use Rattle.win_replay.specs.Replays.{IsReplayed}
+use Rattle.patience.specs.declared.asked.Asked.{Asked}
 use Rattle.patience.specs.declared.status.Status.{Status}
 use Rattle.patience.specs.declared.status.Status.TheVariants.{Done, Usage, ShelfFailed, RulesRefused, DealRefused, LineRefused, SinkFailed, Memory}
+use Rattle.patience.specs.Asked.{job_asked}
 use Rattle.patience.specs.Causes.{Shelved, Explains, rules_name, deal_name, line_name, takes_deal, seed_of, HasRules, HasDeal, HasStart, HasLine, IsUsage, IsRulesFailure, IsDealFailure, IsLineFailure, IsRulesRefusal, IsDealRefusal, IsSeedRefusal, IsBadLine, IsIllegalLine, IsShortLine, IsSolved, IsWinningLine, IsDealt, IsSpelled}
-use Rattle.patience.specs.Answers.{Gives, GivesRules, GivesDeal, Follows}
+use Rattle.patience.specs.Answers.{Gives, GivesRules, GivesDeal, IsDue}
 use Rattle.patience.proofs.Replay.{wins-not_short, wins-not_illegal}
 
 -- a file has one list of bytes
@@ -44,8 +46,8 @@ no_both r a e first second = absurd (let both : Ok a ≡ Err e = sym first ∙ s
 
 -- a job with a seed has no deal file
 no_file : (j : Job) (seed : ℕ) → seed_of j ≡ Some seed → takes_deal j ≡ false
-no_file (job.Solve source.File cache nodes) seed h = cc
-no_file (job.Solve (source.FromSeed other) cache nodes) seed h = refl
+no_file (job.Solve source.File cache nodes memo) seed h = cc
+no_file (job.Solve (source.FromSeed other) cache nodes memo) seed h = refl
 no_file job.Replay seed h = cc
 no_file (job.Deal other) seed h = refl
 no_file job.Rules seed h = cc
@@ -199,7 +201,7 @@ module _ (shelf : Shelved) (words : List (List ℕ)) where
       (λ x. no_both (job_of words) job.Replay fault x.has_deal.has_rules.named no_job)
       (λ x. no_both (job_of words) job.Replay fault x.has_line.has_deal.has_rules.named no_job)
       (λ x. no_both (job_of words) job.Replay fault x.has_line.has_deal.has_rules.named no_job)
-      (λ x. no_both (job_of words) (job.Solve x.source x.cache x.nodes) fault (started shelf.files words (job.Solve x.source x.cache x.nodes) x.rules x.start x.has_start).named no_job)
+      (λ x. no_both (job_of words) (job_asked x.asked) fault (started shelf.files words (job_asked x.asked) x.rules x.start x.has_start).named no_job)
       (λ x. no_both (job_of words) job.Replay fault x.has_line.has_deal.has_rules.named no_job)
       (λ x. no_both (job_of words) (job.Deal x.seed) fault x.has_rules.named no_job)
       (λ x. no_both (job_of words) job.Rules fault x.has_rules.named no_job)
@@ -218,7 +220,7 @@ module _ (shelf : Shelved) (words : List (List ℕ)) where
       (λ x. rules_fall job.Replay bytes fault x.rules gives refused x.has_deal.has_rules)
       (λ x. rules_fall job.Replay bytes fault x.rules gives refused x.has_line.has_deal.has_rules)
       (λ x. rules_fall job.Replay bytes fault x.rules gives refused x.has_line.has_deal.has_rules)
-      (λ x. rules_fall (job.Solve x.source x.cache x.nodes) bytes fault x.rules gives refused (started shelf.files words (job.Solve x.source x.cache x.nodes) x.rules x.start x.has_start))
+      (λ x. rules_fall (job_asked x.asked) bytes fault x.rules gives refused (started shelf.files words (job_asked x.asked) x.rules x.start x.has_start))
       (λ x. rules_fall job.Replay bytes fault x.rules gives refused x.has_line.has_deal.has_rules)
       (λ x. rules_fall (job.Deal x.seed) bytes fault x.rules gives refused x.has_rules)
       (λ x. rules_fall job.Rules bytes fault x.rules gives refused x.has_rules)
@@ -238,7 +240,7 @@ module _ (shelf : Shelved) (words : List (List ℕ)) where
       (λ x. deal_falls j job.Replay rules x.rules bytes fault x.board by gives refused x.has_deal)
       (λ x. deal_falls j job.Replay rules x.rules bytes fault x.board by gives refused x.has_line.has_deal)
       (λ x. deal_falls j job.Replay rules x.rules bytes fault x.board by gives refused x.has_line.has_deal)
-      (λ x. start_falls j (job.Solve x.source x.cache x.nodes) rules x.rules bytes fault x.start by takes gives refused x.has_start)
+      (λ x. start_falls j (job_asked x.asked) rules x.rules bytes fault x.start by takes gives refused x.has_start)
       (λ x. deal_falls j job.Replay rules x.rules bytes fault x.board by gives refused x.has_line.has_deal)
       (λ x. takes_or_not j (job.Deal x.seed) takes refl (same_rules j (job.Deal x.seed) rules x.rules by x.has_rules).0)
       (λ x. takes_or_not j job.Rules takes refl (same_rules j job.Rules rules x.rules by x.has_rules).0)
@@ -262,8 +264,8 @@ module _ (shelf : Shelved) (words : List (List ℕ)) where
       bad
       illegal
       short
-      (λ x. absurd (let same : job.Replay ≡ job.Solve x.source x.cache x.nodes =
-      (same_rules job.Replay (job.Solve x.source x.cache x.nodes) rules x.rules gives.has_rules (started shelf.files words (job.Solve x.source x.cache x.nodes) x.rules x.start x.has_start)).0 in cc))
+      (λ x. absurd (let same : job.Replay ≡ job_asked x.asked =
+      (same_rules job.Replay (job_asked x.asked) rules x.rules gives.has_rules (started shelf.files words (job_asked x.asked) x.rules x.start x.has_start)).0 in cc))
       won
       (λ x. takes_or_not job.Replay (job.Deal x.seed) refl refl (same_rules job.Replay (job.Deal x.seed) rules x.rules gives.has_rules x.has_rules).0)
       (λ x. takes_or_not job.Replay job.Rules refl refl (same_rules job.Replay job.Rules rules x.rules gives.has_rules x.has_rules).0)
@@ -296,27 +298,27 @@ module _ (shelf : Shelved) (words : List (List ℕ)) where
       (λ x. refl)
 
   -- a job that solves has no line
-  no_replay : {C : Type 0} (cache nodes : ℕ) (rules other : RuleParts) (board start : Board) → GivesDeal shelf words (job.Solve source.File cache nodes) rules board
+  no_replay : {C : Type 0} (asked : Asked) (rules other : RuleParts) (board start : Board) → GivesDeal shelf words (job_asked asked) rules board
       → HasDeal shelf.files words job.Replay other start → C
-  no_replay cache nodes rules other board start gives has = absurd (let same : job.Solve source.File cache nodes ≡ job.Replay =
-      (same_rules (job.Solve source.File cache nodes) job.Replay rules other gives.has_rules has.has_rules).0 in cc)
+  no_replay asked rules other board start gives has = absurd (let same : job_asked asked ≡ job.Replay =
+      (same_rules (job_asked asked) job.Replay rules other gives.has_rules has.has_rules).0 in cc)
 
   -- the deal is solved
-  solved_is : (text : List ℕ) (cache nodes : ℕ) (rules : RuleParts) (board : Board) → GivesDeal shelf words (job.Solve source.File cache nodes) rules board
+  solved_is : (text : List ℕ) (asked : Asked) (rules : RuleParts) (board : Board) → GivesDeal shelf words (job_asked asked) rules board
       → (status : Status) → Explains shelf words status text → status ≡ Done
-  solved_is text cache nodes rules board gives =
+  solved_is text asked rules board gives =
       by_cause (λ s. s ≡ Done) text
-      (λ x. no_both (job_of words) (job.Solve source.File cache nodes) x.fault gives.has_rules.named x.names_no_job)
+      (λ x. no_both (job_of words) (job_asked asked) x.fault gives.has_rules.named x.names_no_job)
       (λ x. absurd (gives.has_rules.given.calm x.rose))
-      (λ x. rules_stand (job.Solve source.File cache nodes) rules text gives.has_rules x)
+      (λ x. rules_stand (job_asked asked) rules text gives.has_rules x)
       (λ x. absurd (gives.given.calm x.rose))
-      (λ x. deal_stands (job.Solve source.File cache nodes) rules board text gives x)
-      (λ x. takes_or_not (job.Solve source.File cache nodes) x.job refl (no_file x.job x.seed x.given)
-      (same_rules (job.Solve source.File cache nodes) x.job rules x.rules gives.has_rules x.has_rules).0)
-      (λ x. no_replay cache nodes rules x.rules board x.board gives x.has_deal)
-      (λ x. no_replay cache nodes rules x.rules board x.board gives x.has_deal)
-      (λ x. no_replay cache nodes rules x.rules board x.board gives x.has_line.has_deal)
-      (λ x. no_replay cache nodes rules x.rules board x.board gives x.has_line.has_deal)
+      (λ x. deal_stands (job_asked asked) rules board text gives x)
+      (λ x. takes_or_not (job_asked asked) x.job gives.takes (no_file x.job x.seed x.given)
+      (same_rules (job_asked asked) x.job rules x.rules gives.has_rules x.has_rules).0)
+      (λ x. no_replay asked rules x.rules board x.board gives x.has_deal)
+      (λ x. no_replay asked rules x.rules board x.board gives x.has_deal)
+      (λ x. no_replay asked rules x.rules board x.board gives x.has_line.has_deal)
+      (λ x. no_replay asked rules x.rules board x.board gives x.has_line.has_deal)
       (λ x. refl)
       (λ x. refl)
       (λ x. refl)
@@ -347,7 +349,7 @@ module _ (shelf : Shelved) (words : List (List ℕ)) where
       (λ x. no_deal_file j job.Replay seed rules x.rules by given x.has_deal.has_rules refl)
       (λ x. no_deal_file j job.Replay seed rules x.rules by given x.has_line.has_deal.has_rules refl)
       (λ x. no_deal_file j job.Replay seed rules x.rules by given x.has_line.has_deal.has_rules refl)
-      (λ x. seed_falls j (job.Solve x.source x.cache x.nodes) seed rules x.rules fault x.start by given refused x.has_start)
+      (λ x. seed_falls j (job_asked x.asked) seed rules x.rules fault x.start by given refused x.has_start)
       (λ x. no_deal_file j job.Replay seed rules x.rules by given x.has_line.has_deal.has_rules refl)
       (λ x. fits_or_not rules x.rules fault (same_rules j (job.Deal x.seed) rules x.rules by x.has_rules).1 refused x.fits)
       (λ x. seed_or_not j job.Rules seed given refl (same_rules j job.Rules rules x.rules by x.has_rules).0)
@@ -392,8 +394,8 @@ module _ (shelf : Shelved) (words : List (List ℕ)) where
       (λ x. refl)
 
   -- the status that has its cause is the one that must be answered
-  pub follows : (status : Status) (text : List ℕ) → Explains shelf words status text → Follows shelf words status
-  follows status text cause = record {
+  pub is_due : (status : Status) (text : List ℕ) → Explains shelf words status text → IsDue shelf words status
+  is_due status text cause = record {
     usage = λ fault h sunk memory. usage_is text fault h status cause;
     rules_refused = λ j bytes fault named gives refused sunk memory. rules_refused_is text j bytes fault named gives refused status cause;
     deal_refused = λ j rules bytes fault by takes gives refused sunk memory. deal_refused_is text j rules bytes fault by takes gives refused status cause;
@@ -401,7 +403,7 @@ module _ (shelf : Shelved) (words : List (List ℕ)) where
     bad_line = λ rules board bytes fault gives given refused sunk memory. bad_line_is text rules board bytes fault gives given refused status cause;
     no_win = λ rules board bytes moves gives given accepted no sunk memory. no_win_is text rules board bytes moves gives given accepted no status cause;
     win = λ rules board bytes moves gives given accepted wins sunk memory. win_is text rules board bytes moves gives given accepted wins status cause;
-    solved = λ cache nodes rules board gives sunk memory. solved_is text cache nodes rules board gives status cause;
+    solved = λ asked rules board gives sunk memory. solved_is text asked rules board gives status cause;
     dealt = λ j rules seed by given fits sunk memory. dealt_is text j rules seed by given fits status cause;
     spelled = λ rules by sunk memory. spelled_is text rules by status cause;
   }

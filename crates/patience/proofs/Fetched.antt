@@ -18,9 +18,11 @@ use Rattle.solver_words.specs.declared.job.Source.{Source}
 use Rattle.solver_words.specs.declared.job.Source.TheVariants as source
 use Rattle.seed_deal.specs.Seeds.{seed_board, seed_fault}
 use Rattle.solver_words.specs.Jobs.{job_of}
+use Rattle.patience.specs.declared.asked.Asked.{Asked}
 use Rattle.patience.specs.declared.report.Stop.{Stop}
 use Rattle.patience.specs.declared.report.Stop.TheVariants.{Told, NoMemory}
 use Rattle.patience.specs.declared.status.Status.TheVariants.{RulesRefused, DealRefused, LineRefused}
+use Rattle.patience.specs.Asked.{job_asked}
 use Rattle.patience.specs.Causes.{Shelved, Explains, HasRules, HasDeal, HasStart, HasLine, takes_deal, seed_of, rules_name, deal_name, line_name}
 use Rattle.patience.specs.Stages.{Stops, RefusesRules, RefusesDeal, RefusesSeed, RefusesLine}
 
@@ -100,22 +102,22 @@ deal-stopped shelf words j name bytes rules (Told report) named by takes fetched
     subst (λ status. Explains shelf words status report.text.items) (sym stopped.2) cause
 
 -- the board of a seed is that of the rules
-pub has_dealt : (files : Option (List File)) (words : List (List ℕ)) (from : Source) (seed cache nodes : ℕ) (rules : RuleParts) (board : Board)
-    → from ≡ source.FromSeed seed → HasRules files words (job.Solve from cache nodes) rules → seed_fault rules ≡ None → board ≡ seed_board rules seed
-    → HasStart files words (job.Solve from cache nodes) rules board
-has_dealt files words from seed cache nodes rules board is by fits dealt = inr (record {
+pub has_dealt : (files : Option (List File)) (words : List (List ℕ)) (asked : Asked) (seed : ℕ) (rules : RuleParts) (board : Board)
+    → asked.source ≡ source.FromSeed seed → HasRules files words (job_asked asked) rules → seed_fault rules ≡ None → board ≡ seed_board rules seed
+    → HasStart files words (job_asked asked) rules board
+has_dealt files words asked seed rules board is by fits dealt = inr (record {
   has_rules = by;
   seed = seed;
-  given = ap (λ (s : Source). seed_of (job.Solve s cache nodes)) is;
+  given = ap (λ (s : Source). seed_of (job.Solve s asked.cache asked.nodes asked.memo)) is;
   fits = fits;
   dealt = dealt;
 })
 
-pub dealt-start : (files : Option (List File)) (words : List (List ℕ)) (from : Source) (seed cache nodes : ℕ) (rules : RuleParts) (result : Result Board Stop)
-    → from ≡ source.FromSeed seed → HasRules files words (job.Solve from cache nodes) rules → IfOk result (λ board. board ≡ seed_board rules seed)
-    → IfOk result (λ board. seed_fault rules ≡ None) → IfOk result (HasStart files words (job.Solve from cache nodes) rules)
-dealt-start files words from seed cache nodes rules (Ok board) is by dealt fits = has_dealt files words from seed cache nodes rules board is by fits dealt
-dealt-start files words from seed cache nodes rules (Err stop) is by dealt fits = tt
+pub dealt-start : (files : Option (List File)) (words : List (List ℕ)) (asked : Asked) (seed : ℕ) (rules : RuleParts) (result : Result Board Stop)
+    → asked.source ≡ source.FromSeed seed → HasRules files words (job_asked asked) rules → IfOk result (λ board. board ≡ seed_board rules seed)
+    → IfOk result (λ board. seed_fault rules ≡ None) → IfOk result (HasStart files words (job_asked asked) rules)
+dealt-start files words asked seed rules (Ok board) is by dealt fits = has_dealt files words asked seed rules board is by fits dealt
+dealt-start files words asked seed rules (Err stop) is by dealt fits = tt
 
 -- what stopped the deal of a seed has its cause in the rules
 pub seed-stopped : (shelf : Shelved) (words : List (List ℕ)) (j : Job) (rules : RuleParts) (seed : ℕ) (stop : Stop)

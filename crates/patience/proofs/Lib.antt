@@ -1,7 +1,7 @@
 pub mod Puts
 pub mod Wider
 pub mod Replay
-pub mod Follow
+pub mod Due
 pub mod Rulings
 pub mod Fetched
 pub mod PlainWords

@@ -9,7 +9,6 @@ use Rattle.game_rules.specs.Board.{Board}
 use Rattle.solver_words.specs.declared.fault.WordFault.{WordFault}
 use Rattle.solver_words.specs.declared.job.Job.{Job}
 use Rattle.solver_words.specs.declared.job.Job.TheVariants as job
-use Rattle.solver_words.specs.declared.job.Source.TheVariants as source
 use Rattle.solver_words.specs.Jobs.{job_of}
 use Rattle.rules_json.specs.declared.fault.RulesFault.{RulesFault}
 use Rattle.rules_json.specs.RulesFile.{rules_of}
@@ -21,8 +20,10 @@ use Rattle.line_printer.specs.declared.fault.LineFault.{LineFault}
 use Rattle.line_printer.specs.LineFile.{line_of}
 use Rattle.win_replay.specs.declared.Replayed.TheVariants as replayed
 use Rattle.win_replay.specs.Replays.{IsReplayed}
+use Rattle.patience.specs.declared.asked.Asked.{Asked}
 use Rattle.patience.specs.declared.status.Status.{Status}
 use Rattle.patience.specs.declared.status.Status.TheVariants.{Done, Usage, RulesRefused, DealRefused, LineRefused, SinkFailed, Memory}
+use Rattle.patience.specs.Asked.{job_asked}
 use Rattle.patience.specs.Causes.{Shelved, Fails, rules_name, deal_name, line_name, takes_deal, seed_of}
 
 -- A status other than SinkFailed and Memory comes with a text that it explains, and this text alone was written.
@@ -59,8 +60,8 @@ pub record GivesDeal (shelf : Shelved) (words : List (List ℕ)) (job : Job) (ru
   pub given : Gives shelf (deal_name words) bytes
   pub accepted : position_of rules bytes ≡ Ok board
 
--- what must be answered to the words, and to the files that the shelf gives
-pub record Follows (shelf : Shelved) (words : List (List ℕ)) (result : Status) : Type 0 where
+-- the status is the one that must be answered to the words, and to the files that the shelf gives
+pub record IsDue (shelf : Shelved) (words : List (List ℕ)) (result : Status) : Type 0 where
   pub usage : (fault : WordFault) → job_of words ≡ Err fault → Yields Usage result
   pub rules_refused : (job : Job) (bytes : List ℕ) (fault : RulesFault) → job_of words ≡ Ok job → Gives shelf (rules_name words) bytes
       → rules_of bytes ≡ Err fault → Yields RulesRefused result
@@ -74,8 +75,7 @@ pub record Follows (shelf : Shelved) (words : List (List ℕ)) (result : Status)
       → Gives shelf (line_name words) bytes → line_of bytes ≡ Ok moves → (¬ IsReplayed rules board moves replayed.Wins) → Yields LineRefused result
   pub win : (rules : RuleParts) (board : Board) (bytes : List ℕ) (moves : List Move) → GivesDeal shelf words job.Replay rules board
       → Gives shelf (line_name words) bytes → line_of bytes ≡ Ok moves → IsReplayed rules board moves replayed.Wins → Yields Done result
-  pub solved : (cache nodes : ℕ) (rules : RuleParts) (board : Board) → GivesDeal shelf words (job.Solve source.File cache nodes) rules board
-      → Yields Done result
+  pub solved : (asked : Asked) (rules : RuleParts) (board : Board) → GivesDeal shelf words (job_asked asked) rules board → Yields Done result
   -- a seed is solved, or its deal is printed
   pub dealt : (job : Job) (rules : RuleParts) (seed : ℕ) → GivesRules shelf words job rules → seed_of job ≡ Some seed
       → seed_fault rules ≡ None → Yields Done result

@@ -8,7 +8,6 @@ use Rattle.game_rules.specs.Board.{Board}
 use Rattle.solver_words.specs.declared.fault.WordFault.{WordFault}
 use Rattle.solver_words.specs.declared.job.Job.{Job}
 use Rattle.solver_words.specs.declared.job.Job.TheVariants as job
-use Rattle.solver_words.specs.declared.job.Source.{Source}
 use Rattle.solver_words.specs.declared.job.Source.TheVariants as source
 use Rattle.solver_words.specs.FaultText.{word_fault_text}
 use Rattle.solver_words.specs.Jobs.{job_of}
@@ -31,9 +30,11 @@ use Rattle.line_printer.specs.VerdictText.{output_of}
 use Rattle.win_replay.specs.declared.Replayed.TheVariants as replayed
 use Rattle.win_replay.specs.Replays.{IsReplayed}
 use Rattle.solve_job.specs.Verdicts.{IsVerdict, IsDecided, IsSmall}
+use Rattle.patience.specs.declared.asked.Asked.{Asked}
 use Rattle.patience.specs.declared.report.FileRole.TheVariants as role
 use Rattle.patience.specs.declared.status.Status.{Status}
 use Rattle.patience.specs.declared.status.Status.TheVariants.{Done, Usage, ShelfFailed, RulesRefused, DealRefused, LineRefused, SinkFailed, Memory}
+use Rattle.patience.specs.Asked.{job_asked}
 use Rattle.patience.specs.Texts.{line, failed_text, words_text, refused_text, ends_short_text, illegal_text, wins_text}
 
 -- what the shelf told, and how its counts of faults stood before and after
@@ -58,16 +59,16 @@ Fails shelf name = Rose (shelf.before name) (shelf.after name)
 
 -- whether the job has a deal file
 abbrev pub takes_deal : Job → Bool
-takes_deal (job.Solve source.File cache nodes) = true
-takes_deal (job.Solve (source.FromSeed seed) cache nodes) = false
+takes_deal (job.Solve source.File cache nodes memo) = true
+takes_deal (job.Solve (source.FromSeed seed) cache nodes memo) = false
 takes_deal job.Replay = true
 takes_deal (job.Deal seed) = false
 takes_deal job.Rules = false
 
 -- the seed of the job, where it has one
 abbrev pub seed_of : Job → Option ℕ
-seed_of (job.Solve source.File cache nodes) = None
-seed_of (job.Solve (source.FromSeed seed) cache nodes) = Some seed
+seed_of (job.Solve source.File cache nodes memo) = None
+seed_of (job.Solve (source.FromSeed seed) cache nodes memo) = Some seed
 seed_of job.Replay = None
 seed_of (job.Deal seed) = Some seed
 seed_of job.Rules = None
@@ -201,16 +202,14 @@ pub record IsShortLine (files : Option (List File)) (words : List (List ℕ)) (t
 
 -- a verdict on the deal was printed, and it is true
 pub record IsSolved (files : Option (List File)) (words : List (List ℕ)) (text : List ℕ) : Type 0 where
-  pub source : Source
-  pub cache : ℕ
-  pub nodes : ℕ
+  pub asked : Asked
   pub rules : RuleParts
   pub start : Board
-  pub has_start : HasStart files words (job.Solve source cache nodes) rules start
+  pub has_start : HasStart files words (job_asked asked) rules start
   pub verdict : Verdict
-  pub is_true : IsVerdict rules start cache nodes verdict
+  pub is_true : IsVerdict rules start asked.cache asked.nodes verdict
   -- where so few boards cover the game, the verdict is not undecided
-  pub decides : IsSmall rules start (min nodes cache) → IsDecided verdict
+  pub decides : IsSmall rules start (min asked.nodes asked.cache) → IsDecided verdict
   pub printed : text ≡ output_of verdict
 
 -- the line of moves wins from the deal

@@ -2,9 +2,11 @@
 ghost use Rattle.std.specs.Prelude.{ℕ, ◌≡◌, ◌≤◌, ◌<◌, ◌^◌, IfOk, IfErr, List, Ok, length};
 ghost use Rattle.solver_words.specs.Jobs.{job_of};
 ghost use Rattle.solver_words.specs.Texts.{texts};
+ghost use Rattle.patience.specs.Asked.{job_asked};
 ghost use Rattle.patience.specs.Causes.{Explains};
 ghost use Rattle.patience.specs.Stages.{Stops};
 
+use crate::asked::Asked;
 use crate::files::{fetch_deal, fetch_line, fetch_rules};
 use crate::report::{Report, Stop};
 use crate::starts::{deal_seed, fetch_start};
@@ -15,8 +17,8 @@ use deal_reader::write_position;
 use line_printer::write_verdict;
 use outside_io::Shelf;
 use rules_json::write_rules;
-use solve_job::{Limits, solve};
-use solver_words::{Job, Source, read_words};
+use solve_job::solve;
+use solver_words::{Job, read_words};
 use std::alloc::Global;
 use win_replay::{Replayed, replay};
 
@@ -24,11 +26,10 @@ use win_replay::{Replayed, replay};
 fn solve_deal<S: Shelf>(
     alloc: Global,
     words: &[String],
-    source: Source,
-    limits: Limits,
+    asked: Asked,
     shelf: &mut S,
 ) -> Result<Report, Stop>
-    requires { job_of (texts words.now) ≡ Ok (Job.Solve source limits.cache limits.nodes) }
+    requires { job_of (texts words.now) ≡ Ok (job_asked asked) }
     ensures files { S.files shelf.new ≡ S.files shelf.old }
     ensures never_falls { (name : List ℕ) → S.faults shelf.old name ≤ S.faults shelf.new name }
     ensures done { IfOk result (λ report. Explains
@@ -36,13 +37,9 @@ fn solve_deal<S: Shelf>(
     ensures stopped { IfErr result (Stops (Explains
         (record { files = S.files shelf.old; before = S.faults shelf.old; after = S.faults shelf.new }) (texts words.now))) }
 {
-    let job = Job::Solve {
-        source,
-        cache: limits.cache,
-        nodes: limits.nodes,
-    };
-    let rules = fetch_rules(alloc, words, job, shelf)?;
-    let start = fetch_start(alloc, words, source, &limits, &rules, shelf)?;
+    let rules = fetch_rules(alloc, words, asked.job(), shelf)?;
+    let start = fetch_start(alloc, words, asked, &rules, shelf)?;
+    let limits = asked.limits();
     let verdict = solve(alloc, &rules, &start, &limits)?;
     let text = write_verdict(alloc, &verdict)?;
     Ok(Report {
@@ -136,7 +133,16 @@ fn do_job<S: Shelf>(
             source,
             cache,
             nodes,
-        } => solve_deal(alloc, words, source, Limits { cache, nodes }, shelf),
+            memo,
+        } => {
+            let asked = Asked {
+                source,
+                cache,
+                nodes,
+                memo,
+            };
+            solve_deal(alloc, words, asked, shelf)
+        }
         Job::Replay => replay_line(alloc, words, shelf),
         Job::Deal { seed } => print_deal(alloc, words, seed, shelf),
         Job::Rules => spell_rules(alloc, words, shelf),

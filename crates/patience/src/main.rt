@@ -7,9 +7,10 @@
 //! Not promised: what a disk or a terminal holds, time, and what `main` does before the call.
 #![tactic(auto)]
 
+mod asked;
 mod files;
 #[cfg(test)]
-mod hostile;
+mod hostile_tests;
 mod jobs;
 mod lines;
 #[cfg(test)]
@@ -18,11 +19,9 @@ mod report;
 #[cfg(test)]
 mod seed_tests;
 #[cfg(test)]
-mod solved;
+mod solved_tests;
 mod starts;
 mod status;
-#[cfg(test)]
-mod stock_games;
 #[cfg(test)]
 mod tests;
 mod texts;

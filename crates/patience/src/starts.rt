@@ -3,17 +3,18 @@ ghost use Rattle.std.specs.Prelude.{ℕ, ◌≡◌, ◌≤◌, None, IfOk, IfErr
 ghost use Rattle.game_rules.specs.Belonging.{Belongs};
 ghost use Rattle.seed_deal.specs.Seeds.{seed_board, seed_fault};
 ghost use Rattle.solver_words.specs.Texts.{texts};
+ghost use Rattle.patience.specs.Asked.{job_asked};
 ghost use Rattle.patience.specs.Causes.{Explains, HasRules, HasStart};
 ghost use Rattle.patience.specs.Stages.{Stops, RefusesSeed};
 
+use crate::asked::Asked;
 use crate::files::fetch_deal;
 use crate::report::Stop;
 use crate::texts;
 use game_model::{Board, Rules};
 use outside_io::Shelf;
 use seed_deal::{SeedFault, deal_from_seed};
-use solve_job::Limits;
-use solver_words::{Job, Source};
+use solver_words::Source;
 use std::alloc::Global;
 
 /// The board that the seed deals under the rules.
@@ -37,26 +38,20 @@ pub fn deal_seed(alloc: Global, rules: &Rules, seed: u64) -> Result<Board, Stop>
 pub fn fetch_start<S: Shelf>(
     alloc: Global,
     words: &[String],
-    source: Source,
-    limits: &Limits,
+    asked: Asked,
     rules: &Rules,
     shelf: &mut S,
 ) -> Result<Board, Stop>
-    requires { HasRules (S.files shelf.old) (texts words.now) (Job.Solve source limits.now.cache limits.now.nodes) rules.now }
+    requires { HasRules (S.files shelf.old) (texts words.now) (job_asked asked) rules.now }
     ensures files { S.files shelf.new ≡ S.files shelf.old }
     ensures never_falls { (name : List ℕ) → S.faults shelf.old name ≤ S.faults shelf.new name }
-    ensures accepted { IfOk result (HasStart (S.files shelf.old) (texts words.now) (Job.Solve source limits.now.cache limits.now.nodes) rules.now) }
+    ensures accepted { IfOk result (HasStart (S.files shelf.old) (texts words.now) (job_asked asked) rules.now) }
     ensures belongs { IfOk result (Belongs rules.now) }
     ensures stopped { IfErr result (Stops (Explains
         (record { files = S.files shelf.old; before = S.faults shelf.old; after = S.faults shelf.new }) (texts words.now))) }
 {
-    let job = Job::Solve {
-        source,
-        cache: limits.cache,
-        nodes: limits.nodes,
-    };
-    match source {
-        Source::File => fetch_deal(alloc, words, job, rules, shelf),
+    match asked.source {
+        Source::File => fetch_deal(alloc, words, asked.job(), rules, shelf),
         Source::FromSeed(seed) => deal_seed(alloc, rules, seed),
     }
 }

@@ -5,7 +5,7 @@ ghost use Rattle.outside_io.specs.Faults.{Rose};
 ghost use Rattle.outside_io.specs.Sink.{AppendsPrefix};
 ghost use Rattle.solver_words.specs.Texts.{texts};
 ghost use Rattle.patience.specs.Causes.{Explains};
-ghost use Rattle.patience.specs.Answers.{Follows, WritesWhole, WritesPart};
+ghost use Rattle.patience.specs.Answers.{IsDue, WritesWhole, WritesPart};
 
 use crate::jobs::make_report;
 use crate::lines::put_lines;
@@ -33,7 +33,7 @@ pub fn patience<S: Shelf, K: Sink>(
         (K.written sink.old) (K.written sink.new) result }
 
     // Each answer to words and bytes is given exactly where it is due, unless the sink or memory failed.
-    ensures exact { Follows
+    ensures exact { IsDue
         (record { files = S.files shelf.old; before = S.faults shelf.old; after = S.faults shelf.new }) (texts words.now) result }
 
     // Where the sink failed, a prefix of such a text was written.

@@ -5,7 +5,6 @@ pub mod SafeCases
 pub mod SafeExchange
 pub mod SafeListed
 pub mod FirstSafe
-pub mod StepsWin
 pub mod HomePlace
 pub mod NotNeeded
 pub mod SafeRows

@@ -1,6 +1,6 @@
 -- Small boards with and without a safe move, worked out by the definitions alone.
 use Rattle.std.proofs.Common.{◌≡◌, ℕ, true, false, List, [], ◌∷◌, refl}
-use Rattle.std.specs.Prelude.{Option, None}
+use Rattle.std.specs.Prelude.{Option, None, Some}
 use Rattle.card_piles.specs.declared.Card.{Card}
 use Rattle.card_piles.specs.declared.Suit.{Suit}
 use Rattle.card_piles.specs.declared.Suit.TheVariants.{Clubs}
@@ -17,8 +17,7 @@ use Rattle.game_rules.specs.declared.Move.{Move}
 use Rattle.game_rules.specs.declared.Move.TheVariants.{Carry}
 use Rattle.game_rules.specs.declared.Place.TheVariants.{Tableau, Cell, Foundation}
 use Rattle.game_rules.specs.Board.{Board, Pile}
-use Rattle.safe_moves.specs.Safe.{is_safe}
-use Rattle.safe_moves.specs.Steps.{steps}
+use Rattle.safe_moves.specs.Safe.{first_safe, is_safe}
 
 abbrev card : Suit → ℕ → Card
 card s r = record { suit = s; rank = r }
@@ -67,8 +66,8 @@ board_of piles cell heights = record {
 abbrev ace_free : Board
 ace_free = board_of (up (card Clubs 2 ∷ card Clubs 3 ∷ card Clubs 4 ∷ []) ∷ up (card Clubs 1 ∷ []) ∷ []) None (0 ∷ 4 ∷ 4 ∷ 4 ∷ [])
 
-pub ace_free-steps : steps (four_ranks 1) ace_free ≡ Carry (Tableau 1) (Foundation 0) 1 ∷ []
-ace_free-steps = refl
+pub ace_free-first : first_safe (four_ranks 1) ace_free ≡ Some (Carry (Tableau 1) (Foundation 0) 1)
+ace_free-first = refl
 
 -- a two is safe only once both aces of the other colour are home, and with one deck
 abbrev two_free : ℕ → ℕ → Board

@@ -12,24 +12,12 @@ ghost use Rattle.game_rules.specs.Order.{Before};
 ghost use Rattle.game_rules.specs.Belonging.{Belongs};
 ghost use Rattle.safe_moves.specs.Safe.{first_safe, is_not_needed, is_safe, rules_allow};
 ghost use Rattle.safe_moves.specs.Need.{are_no_bar, upper_rank};
-ghost use Rattle.safe_moves.specs.Steps.{steps};
 
 /// A safe move may come first: if a board wins within `n + 1` moves, it wins within `n` after any of
 /// its safe moves.
 pub fn safe_move_may_come_first()
     ensures { (rules : RuleParts) (board : Board) (move : Move) (n : ℕ) → IsPlayable rules → Belongs rules board
         → IsTrue (is_safe rules board move) → Wins rules (n + 1) board → Wins rules n (after rules board move) }
-{}
-
-/// No win is lost by the moves that a search tries: if a board that is not won wins within `n + 1`
-/// moves, one of them leads to a board that wins within `n`. Each of them is legal, and none stands
-/// twice.
-pub fn steps_lose_no_win()
-    ensures nearer { (rules : RuleParts) (board : Board) (n : ℕ) → IsPlayable rules → Belongs rules board
-        → (Won rules board → ⊥) → Wins rules (n + 1) board
-        → (move : Move) × Contains (steps rules board) move × Wins rules n (after rules board move) }
-    ensures legal { (rules : RuleParts) (board : Board) (move : Move) → Contains (steps rules board) move → Legal rules board move }
-    ensures once { (rules : RuleParts) (board : Board) → AllPairs (λ a b. a ≢ b) (steps rules board) }
 {}
 
 /// The first safe move is the safe move that no safe move stands before. A board without a safe move

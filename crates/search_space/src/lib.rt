@@ -20,6 +20,8 @@ mod narrow;
 #[cfg(test)]
 mod narrow_tests;
 mod space;
+#[cfg(test)]
+mod space_tests;
 
 pub use going::StepUndo;
 pub use narrow::NarrowSpace;

@@ -99,7 +99,58 @@ pile 2C 3C 4C pile AC home 0 4 4 4
 100000 1000000
 unwinnable
 nodes 3
-narrow 0";
+narrow 0
+
+ranks 1 piles 0 cells 0 reserve 0 stock 4 draw 3
+stock AC AD AH AS
+100000 1000000
+winnable
+nodes 4
+narrow 0
+moves 6
+deal
+w f1
+w f2
+w f3
+deal
+w f0
+
+ranks 2 piles 0 cells 0 reserve 0 stock 2 draw 2 unlimited
+stock 2C AC home 0 2 2 2
+100000 1000000
+unwinnable
+nodes 1
+narrow 0
+
+ranks 3 piles 0 cells 0 reserve 0 stock 3 redeals 1
+stock AC 3C 2C left 1 home 0 3 3 3
+100000 1000000
+winnable
+nodes 3
+narrow 0
+moves 9
+deal
+deal
+deal
+w f0
+redeal
+deal
+w f0
+deal
+w f0
+
+ranks 3 piles 1 cells 0 reserve 0 stock 2 redeals 1
+pile 3C stock AC 2C left 1 home 0 3 3 3
+100000 1000000
+winnable
+nodes 3
+narrow 0
+moves 5
+deal
+deal
+w f0
+w f0
+t0 f0";
 
 /// The verdict on a game, as it is printed.
 fn verdict_on(

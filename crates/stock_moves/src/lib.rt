@@ -10,6 +10,8 @@
 mod expanding;
 mod listing;
 mod onto;
+#[cfg(test)]
+mod tests;
 
 pub use expanding::expand;
 pub use listing::list_stock_steps;

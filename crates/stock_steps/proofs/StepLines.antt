@@ -16,7 +16,7 @@ use Rattle.game_rules.specs.Winning.{Line}
 use Rattle.game_rules.specs.Order.{legal_moves}
 use Rattle.game_rules.specs.StockMoves.{stock_move, IsNextByStock, after_stock_move, after_stock_moves}
 use Rattle.safe_moves.specs.Safe.{first_safe, is_safe}
-use Rattle.stock_steps.specs.Steps.{is_from_waste, is_from_elsewhere, other_carries, forced_or, stock_steps_after, steps_from, most_stock_moves, free_steps, steps, CanBeMade, stock_moves, expand, after_step}
+use Rattle.stock_steps.specs.Steps.{stock_steps, is_from_waste, is_from_elsewhere, other_carries, forced_or, stock_steps_after, steps_from, most_stock_moves, free_steps, steps, CanBeMade, stock_moves, expand, after_step}
 use Rattle.stock_steps.specs.StockSteps.{IsStockRun, StockStep}
 use Rattle.stock_steps.specs.declared.Step.{Step}
 use Rattle.game_rules.proofs.Limits.{both, limits_of, numbers_within}
@@ -53,6 +53,15 @@ pub step_line : (rules : RuleParts) (board : Board) (step : Step) → CanBeMade 
     → Line rules board (expand rules board step) (after_step rules board step)
 step_line rules board step can = stock_line rules step.deals board step.last can.stock.to_waste can.stock.each can.last
 
+some_draw : (n : ℕ) → IsTrue (is_within 1 10 n) → 1 ≤ n
+some_draw n h = grind (arith, nat_tests)
+
+pub playable_draw : (rules : RuleParts) → IsPlayable rules → 1 ≤ rules.draw
+playable_draw rules h =
+    let to_draw = both _ _ (numbers_within rules h) in
+    let to_number = both _ _ to_draw.0 in
+    some_draw rules.draw to_number.1
+
 -- the steps of the list can be made
 
 no_stock : (rules : RuleParts) (board : Board) (step : Step) (moves : List Move) → ((move : Move) → Mem move moves → Legal rules board move)
@@ -78,6 +87,17 @@ after_stock rules board step to_waste draws here =
       last = subst (λ (k : ℕ). Legal rules (after_stock_moves rules k board) step.last) (sym place)
           (listed_legal rules (after_stock_moves rules at.place board) step.last kept.1);
     }
+
+made_by : (rules : RuleParts) (board : Board) (step : Step) (t : Bool) → deals_to_waste rules.target ≡ t → 1 ≤ rules.draw
+    → Mem step (stock_steps rules board) → CanBeMade rules board step
+made_by rules board step true e draws here = after_stock rules board step e draws (rw e at here)
+made_by rules board step false e draws here = absurd (let none : Mem step [] = rw e at here in none)
+
+-- each stock step can be made
+pub stock_steps-made : (rules : RuleParts) (board : Board) (step : Step) → IsPlayable rules → Contains (stock_steps rules board) step
+    → CanBeMade rules board step
+stock_steps-made rules board step playable here =
+    made_by rules board step (deals_to_waste rules.target) refl (playable_draw rules playable) (Mem-from_Contains step (stock_steps rules board) here)
 
 filtered_legal : (rules : RuleParts) (board : Board) (test : Move → Bool) (move : Move) → Mem move (filter test (legal_moves rules board)) → Legal rules board move
 filtered_legal rules board test move here = listed_legal rules board move (Mem-from_filter test move (legal_moves rules board) here).1
@@ -133,15 +153,6 @@ redeals_most Unlimited h = omega arith
 unlimited_none : (redeals : Redeals) → IsTrue (is_unlimited redeals) → most_redeals redeals ≡ 0
 unlimited_none (Times n) h = cc
 unlimited_none Unlimited h = refl
-
-some_draw : (n : ℕ) → IsTrue (is_within 1 10 n) → 1 ≤ n
-some_draw n h = grind (arith, nat_tests)
-
-pub playable_draw : (rules : RuleParts) → IsPlayable rules → 1 ≤ rules.draw
-playable_draw rules h =
-    let to_draw = both _ _ (numbers_within rules h) in
-    let to_number = both _ _ to_draw.0 in
-    some_draw rules.draw to_number.1
 
 playable_redeals : (rules : RuleParts) → IsPlayable rules → most_redeals rules.redeals ≤ 99
 playable_redeals rules h = redeals_most rules.redeals (both _ _ (numbers_within rules h)).1

@@ -1,8 +1,8 @@
 use Rattle.solver_words.specs.Texts.{texts}
-use Rattle.patience.proofs.Follow.{follows}
+use Rattle.patience.proofs.Due.{is_due}
 use Rattle.patience.proofs.top.patience.Goals as goal
 
 pub returns-in-Ok-put_lines-clause-exact : goal.returns-in-Ok-put_lines-clause-exact
 returns-in-Ok-put_lines-clause-exact g c =
-    follows (record { files = g.S.Shelf.files c.args.shelf.now; before = g.S.Shelf.faults c.args.shelf.now; after = g.S.Shelf.faults c.make_report.new.shelf })
+    is_due (record { files = g.S.Shelf.files c.args.shelf.now; before = g.S.Shelf.faults c.args.shelf.now; after = g.S.Shelf.faults c.make_report.new.shelf })
     (texts c.args.words.now) c.in-Ok.report.status c.in-Ok.report.text.items c.in-Ok.ensures.explained
