@@ -56,7 +56,6 @@ forced-once : (forced : Option Move) (others : List Step) → AllPairs (λ a b. 
 forced-once None others once = once
 forced-once (Some move) others once = λ i j d l m. absurd (omega (arith, l, m))
 
-pub narrow_steps-once : (rules : RuleParts) (way : Streamliner) (board : Board) → IsPlayable rules
+pub narrow_steps-once : (rules : RuleParts) (way : Streamliner) (board : Board)
     → AllPairs (λ a b. a ≢ b) (narrow_steps rules way board)
-narrow_steps-once rules way board playable =
-    forced-once (narrow way (legal_moves rules board)) (steps rules board) (steps-apart rules board (playable_draw rules playable))
+narrow_steps-once rules way board = forced-once (narrow way (legal_moves rules board)) (steps rules board) (steps-apart rules board)

@@ -3,11 +3,12 @@ ghost use Rattle.std.specs.Prelude.{◌≡◌, ℕ, ◌++◌, OnOk};
 ghost use Rattle.game_rules.specs.Belonging.{Belongs};
 ghost use Rattle.game_rules.specs.Winning.{Wins};
 ghost use Rattle.packed_state.specs.Packed.{board_of};
+ghost use Rattle.streamliner.specs.declared.Streamliner.TheVariants.{AutoFoundations};
 ghost use Rattle.search_space.specs.Narrow.{narrow_steps};
 ghost use Rattle.search_space.specs.NarrowPlay.{narrow_play, before_narrow};
 
 use crate::going::{StepUndo, back_step, go_step};
-use crate::listing::{list_steps, push_single};
+use crate::listing::{list_free_steps, list_steps, moves_of, push_single};
 use dfs_core::Space;
 use game_model::{Board, Rules};
 use packed_state::Packed;
@@ -58,6 +59,26 @@ impl<'a> NarrowSpace<'a> {
     }
 }
 
+/// Appends the first legal carry to a foundation, if there is one, else the steps of the board in their order. The
+/// packed board is as before. Where there is none, no move is safe, and the moves are listed once.
+fn list_home_or_steps(
+    alloc: Global,
+    rules: &Rules,
+    packed: &mut Packed,
+    out: &mut Vec<Step>,
+) -> Result<(), NoMemory>
+    requires { Belongs rules.now (board_of packed.old) }
+    ensures listed { OnOk result (out.new.items
+        ≡ out.old.items ++ narrow_steps rules.now AutoFoundations (board_of packed.old)) }
+    ensures as_before { packed.new ≡ packed.old }
+{
+    let moves = moves_of(alloc, rules, packed)?;
+    match narrow(Streamliner::AutoFoundations, moves.as_slice()) {
+        Some(carry) => push_single(carry, out),
+        None => list_free_steps(alloc, rules, packed, moves.as_slice(), out),
+    }
+}
+
 /// Appends the first legal carry to a foundation, where the way takes it alone and there is one, else the steps of the
 /// board in their order. The packed board is as before.
 fn list_narrow_steps(
@@ -71,16 +92,11 @@ fn list_narrow_steps(
     ensures listed { OnOk result (out.new.items ≡ out.old.items ++ narrow_steps rules.now way (board_of packed.old)) }
     ensures as_before { packed.new ≡ packed.old }
 {
-    if matches!(way, Streamliner::SuitSymmetry) {
-        return list_steps(alloc, rules, packed, out);
-    }
-    let mut moves = Vec::new(alloc);
-    if packed.list_moves(alloc, rules, &mut moves).is_err() {
-        return Err(NoMemory);
-    }
-    match narrow(way, moves.as_slice()) {
-        Some(carry) => push_single(carry, out),
-        None => list_steps(alloc, rules, packed, out),
+    match way {
+        Streamliner::AutoFoundations | Streamliner::Both => list_home_or_steps(
+            alloc, rules, packed, out,
+        ),
+        Streamliner::SuitSymmetry => list_steps(alloc, rules, packed, out),
     }
 }
 

@@ -30,11 +30,16 @@ fn steps_of(alloc: Global, text: &str) -> Result<Vec<Step>, Fail> {
 fn carries_from_elsewhere_stand_before_the_stock_steps(rt: HostRuntime) -> Result<(), Fail> {
     let alloc = rt.alloc();
     let rules = rules_of(RULES)?;
-    let start = board_of(alloc, &rules, "pile 2H pile 2C stock AC AH left 1 home 0 2 0 2")?;
+    let start = board_of(
+        alloc,
+        &rules,
+        "pile 2H pile 2C stock AC AH left 1 home 0 2 0 2",
+    )?;
     let mut space = PlainSpace::new(&rules, &start);
     let mut steps = Vec::new(alloc);
     space.steps(alloc, &mut steps)?;
-    let want = "0 t0 c0, 0 t1 c0, 1 w f2, 1 w t1, 1 w c0, 2 w f0, 2 w t0, 2 w c0, 4 w f2, 4 w t1, 4 w c0, 5 w f0, 5 w t0, 5 w c0";
+    let want =
+        "0 t0 c0, 0 t1 c0, 1 w f2, 1 w t1, 1 w c0, 2 w f0, 2 w t0, 2 w c0, 4 w f2, 4 w t1, 4 w c0, 5 w f0, 5 w t0, 5 w c0";
     assert!(rt; steps.as_slice() == steps_of(alloc, want)?.as_slice());
     assert!(rt; !space.is_won());
     Ok(())
@@ -70,7 +75,11 @@ fn comes_back(alloc: Global, space: &mut PlainSpace, place: usize) -> Result<boo
 fn each_step_leads_to_another_key_and_back(rt: HostRuntime) -> Result<(), Fail> {
     let alloc = rt.alloc();
     let rules = rules_of(RULES)?;
-    let start = board_of(alloc, &rules, "pile 2H pile 2C stock AC AH left 1 home 0 2 0 2")?;
+    let start = board_of(
+        alloc,
+        &rules,
+        "pile 2H pile 2C stock AC AH left 1 home 0 2 0 2",
+    )?;
     let mut space = PlainSpace::new(&rules, &start);
     for place in 0..14 {
         assert!(rt; comes_back(alloc, &mut space, place)?);

@@ -141,6 +141,19 @@ w f0
 deal
 w f0
 
+ranks 3 piles 1 cells 0 reserve 0 stock 2 redeals 1
+pile 3C stock AC 2C left 1 home 0 3 3 3
+100000 1000000 0
+winnable
+nodes 3
+narrow 0
+moves 5
+deal
+deal
+w f0
+w f0
+t0 f0
+
 ranks 3 piles 2 red-black none cells 0 reserve 0 stock 0
 pile 3C 3D pile AC 2C home 0 2 3 3
 100000 1000000 10

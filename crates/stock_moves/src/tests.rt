@@ -12,6 +12,7 @@ use std::test::Fail;
 
 /// What the games below have in common: three piles and a stock of fourteen cards.
 const RULES: &str = "ranks 5 piles 3 cells 0 reserve 0 top-up red-black run king stock 14";
+
 const BOARD: &str = "pile 5C pile 4D 3S pile 2H 5S 4C down 0 1 2
     stock 3H AS 5D 2C 4H AC 3D 2S AH 5H 2D 4S AD 3C";
 
@@ -59,7 +60,8 @@ fn push_carries(
     list_moves(alloc, rules, board, &mut moves)?;
     for m in &moves {
         if let Move::Carry {
-            from: Place::Waste, ..
+            from: Place::Waste,
+            ..
         } = *m
         {
             found.push(Step { deals, last: *m })?;
@@ -143,6 +145,8 @@ fn the_list_has_the_stock_steps_of_each_board(rt: HostRuntime) -> Result<(), Fai
 fn expansions(alloc: Global, rules: &Rules, board: &Board) -> Result<Vec<Move>, Fail>
     requires { Belongs rules.now board.now }
 {
+    // This call brings that the rules are playable, and so that each stock step can be made.
+    let _ = rules.parts();
     let mut packed = Packed::from_board(rules, board);
     let mut steps = Vec::new(alloc);
     list_stock_steps(alloc, rules, &mut packed, &mut steps)?;

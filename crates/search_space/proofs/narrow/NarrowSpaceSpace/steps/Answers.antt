@@ -1,4 +1,4 @@
-use Rattle.std.proofs.Common.{◌≡◌, ◌≢◌, ◌++◌, subst, AllPairs}
+use Rattle.std.proofs.Common.{◌≡◌, ◌++◌, subst}
 use Rattle.std.specs.Prelude.{OnOk}
 use Rattle.packed_state.specs.Packed.{board_of}
 use Rattle.search_space.specs.Narrow.{narrow_steps}
@@ -12,6 +12,4 @@ returns-clause-ok c =
     c.self.view_is c.list_narrow_steps.ensures.listed
 
 pub returns-clause-differ : goal.returns-clause-differ
-returns-clause-differ c =
-    subst (λ (s : NarrowStanding). AllPairs (λ a b. a ≢ b) (narrow_steps s.rules s.way (board_of s.packed)))
-    c.self.view_is (narrow_steps-once c.self.inside.rules.now c.self.inside.way (board_of c.self.inside.packed) c.self.invariant.0)
+returns-clause-differ c = narrow_steps-once c.args.self.now.rules c.args.self.now.way (board_of c.args.self.now.packed)
