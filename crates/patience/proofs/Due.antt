@@ -46,8 +46,8 @@ no_both r a e first second = absurd (let both : Ok a ≡ Err e = sym first ∙ s
 
 -- a job with a seed has no deal file
 no_file : (j : Job) (seed : ℕ) → seed_of j ≡ Some seed → takes_deal j ≡ false
-no_file (job.Solve source.File cache nodes memo) seed h = cc
-no_file (job.Solve (source.FromSeed other) cache nodes memo) seed h = refl
+no_file (job.Solve source.File cache nodes narrow way memo) seed h = cc
+no_file (job.Solve (source.FromSeed other) cache nodes narrow way memo) seed h = refl
 no_file job.Replay seed h = cc
 no_file (job.Deal other) seed h = refl
 no_file job.Rules seed h = cc

@@ -108,7 +108,7 @@ pub has_dealt : (files : Option (List File)) (words : List (List ℕ)) (asked : 
 has_dealt files words asked seed rules board is by fits dealt = inr (record {
   has_rules = by;
   seed = seed;
-  given = ap (λ (s : Source). seed_of (job.Solve s asked.cache asked.nodes asked.memo)) is;
+  given = ap (λ (s : Source). seed_of (job.Solve s asked.cache asked.nodes asked.narrow asked.way asked.memo)) is;
   fits = fits;
   dealt = dealt;
 })

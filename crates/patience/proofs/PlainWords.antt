@@ -8,18 +8,19 @@ use Rattle.game_rules.specs.Board.{Board}
 use Rattle.solver_words.specs.declared.job.Job.{Job}
 use Rattle.solver_words.specs.declared.job.Job.TheVariants as job
 use Rattle.solver_words.specs.declared.job.MemoWord.TheVariants as memo
+use Rattle.solver_words.specs.declared.job.Way.TheVariants as way
+use Rattle.solve_job.specs.declared.limits.Limits.{Limits}
 use Rattle.solver_words.specs.declared.job.Source.TheVariants as source
 use Rattle.solver_words.specs.Jobs.{job_of}
 use Rattle.rules_json.specs.RulesFile.{rules_of}
 use Rattle.deal_reader.specs.Position.{position_of}
 use Rattle.line_printer.specs.declared.verdict.Verdict.{Verdict}
 use Rattle.line_printer.specs.declared.verdict.Verdict.TheVariants as verdict
-use Rattle.stock_steps.specs.Steps.{after_steps}
 use Rattle.solve_job.specs.Verdicts.{IsVerdict}
-use Rattle.solve_job.proofs.Fixed.{no_line_wins}
+use Rattle.solve_job.proofs.Fixed.{line_wins, no_line_wins}
 use Rattle.patience.specs.declared.status.Status.{Status}
 use Rattle.patience.specs.declared.status.Status.TheVariants.{Done, Usage, ShelfFailed, RulesRefused, DealRefused, LineRefused, SinkFailed, Memory}
-use Rattle.patience.specs.Asked.{job_asked}
+use Rattle.patience.specs.Asked.{job_asked, limits_asked}
 use Rattle.patience.specs.Answers.{WritesWhole}
 use Rattle.patience.specs.Causes.{Shelved, Explains, IsSolved, IsRulesRefusal, IsDealRefusal, seed_of}
 use Rattle.patience.specs.PlainWords.{Says, Prints, PrintsVerdict, PrintsRulesFault, PrintsDealFault}
@@ -32,15 +33,15 @@ solve_words = codes "solve" ∷ codes "rules" ∷ codes "deal" ∷ []
 abbrev pub two_files : List ℕ → List ℕ → List File
 two_files rules deal = record { name = codes "rules"; bytes = rules } ∷ record { name = codes "deal"; bytes = deal } ∷ []
 
-job_of-solve_words : job_of solve_words ≡ Ok (job.Solve source.File 100000 1000000 memo.Linked)
+job_of-solve_words : job_of solve_words ≡ Ok (job.Solve source.File 100000 1000000 0 way.Both memo.Linked)
 job_of-solve_words = refl
 
 -- the words name no other job
-one_job : (other : Job) → job_of solve_words ≡ Ok other → other ≡ job.Solve source.File 100000 1000000 memo.Linked
-one_job other named = let same : Ok (job.Solve source.File 100000 1000000 memo.Linked) ≡ Ok other = sym job_of-solve_words ∙ named in cc
+one_job : (other : Job) → job_of solve_words ≡ Ok other → other ≡ job.Solve source.File 100000 1000000 0 way.Both memo.Linked
+one_job other named = let same : Ok (job.Solve source.File 100000 1000000 0 way.Both memo.Linked) ≡ Ok other = sym job_of-solve_words ∙ named in cc
 
 no_replay : job_of solve_words ≡ Ok job.Replay → ⊥
-no_replay named = let same : job.Replay ≡ job.Solve source.File 100000 1000000 memo.Linked = one_job job.Replay named in cc
+no_replay named = let same : job.Replay ≡ job.Solve source.File 100000 1000000 0 way.Both memo.Linked = one_job job.Replay named in cc
 
 -- the job has no seed
 no_seed : (other : Job) (seed : ℕ) → job_of solve_words ≡ Ok other → seed_of other ≡ Some seed → ⊥
@@ -55,12 +56,11 @@ same_deal : (rules deal bytes : List ℕ) → file_bytes (codes "deal") (two_fil
 same_deal rules deal bytes told = let same : Some deal ≡ Some bytes = told in cc
 
 -- what a true verdict says
-says-from_verdict : (rules : RuleParts) (start : Board) (cache limit : ℕ) (v : Verdict) → IsVerdict rules start cache limit v → Says rules start limit v
-says-from_verdict rules start cache limit (verdict.Winnable moves nodes narrow_nodes) is =
-    (after_steps rules start is.0.trail, is.0.legal, is.0.won)
-says-from_verdict rules start cache limit (verdict.Unwinnable nodes narrow_nodes) is = λ moves end line won.
+says-from_verdict : (rules : RuleParts) (start : Board) (limits : Limits) (v : Verdict) → IsVerdict rules start limits v → Says rules start limits.nodes v
+says-from_verdict rules start limits (verdict.Winnable moves nodes narrow_nodes) is = line_wins rules start limits moves nodes narrow_nodes is
+says-from_verdict rules start limits (verdict.Unwinnable nodes narrow_nodes) is = λ moves end line won.
     no_line_wins rules start moves end is.0.never line won
-says-from_verdict rules start cache limit (verdict.Undecided nodes narrow_nodes) is = is.0.spent
+says-from_verdict rules start limits (verdict.Undecided nodes narrow_nodes) is = is.0.ends.spent
 
 prints-solved : (rules deal text : List ℕ) → IsSolved (Some (two_files rules deal)) solve_words text → PrintsVerdict rules deal text
 prints-solved rules deal text s = elim s.has_start [
@@ -73,7 +73,7 @@ prints-solved rules deal text s = elim s.has_start [
         is_rules = subst (λ b. rules_of b ≡ Ok s.rules) (same_rules rules deal has.has_rules.bytes has.has_rules.told) has.has_rules.accepted;
         is_deal = subst (λ b. position_of s.rules b ≡ Ok s.start) (same_deal rules deal has.bytes has.told) has.accepted;
         verdict = s.verdict;
-        says = subst (λ n. Says s.rules s.start n s.verdict) nodes (says-from_verdict s.rules s.start s.asked.cache s.asked.nodes s.verdict s.is_true);
+        says = subst (λ n. Says s.rules s.start n s.verdict) nodes (says-from_verdict s.rules s.start (limits_asked s.asked) s.verdict s.is_true);
         printed = s.printed;
       }
       )
@@ -107,16 +107,16 @@ module _ (rules deal : List ℕ) (before after : List ℕ → ℕ) where
       | inl wins ↦ absurd (no_replay wins.has_line.has_deal.has_rules.named)
       | inr more ↦ elim more [
         | inl dealt ↦
-            let same : job.Deal dealt.seed ≡ job.Solve source.File 100000 1000000 memo.Linked = one_job (job.Deal dealt.seed) dealt.has_rules.named in
+            let same : job.Deal dealt.seed ≡ job.Solve source.File 100000 1000000 0 way.Both memo.Linked = one_job (job.Deal dealt.seed) dealt.has_rules.named in
             let none : ⊥ = cc in absurd none
         | inr spelled ↦
-            let same : job.Rules ≡ job.Solve source.File 100000 1000000 memo.Linked = one_job job.Rules spelled.has_rules.named in
+            let same : job.Rules ≡ job.Solve source.File 100000 1000000 0 way.Both memo.Linked = one_job job.Rules spelled.has_rules.named in
             let none : ⊥ = cc in absurd none
       ]
     ]
   ]
   prints-explained Usage text cause =
-      let same : Ok (job.Solve source.File 100000 1000000 memo.Linked) ≡ Err cause.fault = sym job_of-solve_words ∙ cause.names_no_job in cc
+      let same : Ok (job.Solve source.File 100000 1000000 0 way.Both memo.Linked) ≡ Err cause.fault = sym job_of-solve_words ∙ cause.names_no_job in cc
   prints-explained ShelfFailed text cause = elim cause [
     | inl rules ↦ inl rules.printed
     | inr others ↦ elim others [

@@ -34,7 +34,7 @@ use Rattle.patience.specs.declared.asked.Asked.{Asked}
 use Rattle.patience.specs.declared.report.FileRole.TheVariants as role
 use Rattle.patience.specs.declared.status.Status.{Status}
 use Rattle.patience.specs.declared.status.Status.TheVariants.{Done, Usage, ShelfFailed, RulesRefused, DealRefused, LineRefused, SinkFailed, Memory}
-use Rattle.patience.specs.Asked.{job_asked}
+use Rattle.patience.specs.Asked.{job_asked, limits_asked}
 use Rattle.patience.specs.Texts.{line, failed_text, words_text, refused_text, ends_short_text, illegal_text, wins_text}
 
 -- what the shelf told, and how its counts of faults stood before and after
@@ -59,16 +59,16 @@ Fails shelf name = Rose (shelf.before name) (shelf.after name)
 
 -- whether the job has a deal file
 abbrev pub takes_deal : Job → Bool
-takes_deal (job.Solve source.File cache nodes memo) = true
-takes_deal (job.Solve (source.FromSeed seed) cache nodes memo) = false
+takes_deal (job.Solve source.File cache nodes narrow way memo) = true
+takes_deal (job.Solve (source.FromSeed seed) cache nodes narrow way memo) = false
 takes_deal job.Replay = true
 takes_deal (job.Deal seed) = false
 takes_deal job.Rules = false
 
 -- the seed of the job, where it has one
 abbrev pub seed_of : Job → Option ℕ
-seed_of (job.Solve source.File cache nodes memo) = None
-seed_of (job.Solve (source.FromSeed seed) cache nodes memo) = Some seed
+seed_of (job.Solve source.File cache nodes narrow way memo) = None
+seed_of (job.Solve (source.FromSeed seed) cache nodes narrow way memo) = Some seed
 seed_of job.Replay = None
 seed_of (job.Deal seed) = Some seed
 seed_of job.Rules = None
@@ -207,7 +207,7 @@ pub record IsSolved (files : Option (List File)) (words : List (List ℕ)) (text
   pub start : Board
   pub has_start : HasStart files words (job_asked asked) rules start
   pub verdict : Verdict
-  pub is_true : IsVerdict rules start asked.cache asked.nodes verdict
+  pub is_true : IsVerdict rules start (limits_asked asked) verdict
   -- where so few boards cover the game, the verdict is not undecided
   pub decides : IsSmall rules start (min asked.nodes asked.cache) → IsDecided verdict
   pub printed : text ≡ output_of verdict

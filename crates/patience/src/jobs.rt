@@ -133,12 +133,16 @@ fn do_job<S: Shelf>(
             source,
             cache,
             nodes,
+            narrow,
+            way,
             memo,
         } => {
             let asked = Asked {
                 source,
                 cache,
                 nodes,
+                narrow,
+                way,
                 memo,
             };
             solve_deal(alloc, words, asked, shelf)

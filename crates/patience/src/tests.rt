@@ -118,6 +118,43 @@ undecided
 nodes 3
 narrow 0
 
+a restricted search first, which ends without a win
+{"max rank":3,"tableau":{"piles":2}}
+{"tableau":[["AC","2C","3C"]],"foundations":[0,3,3,3]}
+solve rules deal --narrow 10
+Done
+unwinnable
+nodes 2
+narrow 2
+
+a restricted search that loses the win
+{"max rank":3,"tableau":{"piles":2,"build":"red-black","spaces":"none"}}
+{"tableau":[["3C","3D"],["AC","2C"]],"foundations":[0,2,3,3]}
+solve rules deal --narrow 10 --way foundations
+Done
+winnable
+nodes 6
+narrow 2
+moves 5
+t1 t0 1
+t1 f0
+t0 f0
+t0 f1
+t0 f0
+
+a restricted search that finds a win
+{"max rank":2,"tableau":{"piles":2}}
+{"tableau":[["AC","2C"]],"foundations":[0,2,2,2]}
+solve rules deal --narrow 10 --way foundations
+Done
+winnable
+nodes 0
+narrow 3
+moves 3
+t0 t1 1
+t0 f0
+t1 f0
+
 a card that stands twice, and another missing
 {"max rank":2,"tableau":{"piles":4,"spaces":"none"},"hole":{"start":"AS"}}
 {"tableau":[["AC","2C"],["AD","2D"],["AH","2H"],["AS"]],"hole":["AS"]}

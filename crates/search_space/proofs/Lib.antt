@@ -6,3 +6,8 @@ pub mod Reached
 pub mod Alike
 pub mod Complete
 pub mod Agreeing
+pub mod NoHome
+pub mod NarrowSteps
+pub mod NarrowReached
+pub mod NarrowAlike
+pub mod NarrowReturning

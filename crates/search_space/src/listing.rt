@@ -1,5 +1,5 @@
 //! The steps that the search tries of a board.
-ghost use Rattle.std.specs.Prelude.{◌≡◌, [], ◌∷◌, ◌++◌, ◌||◌, OnOk};
+ghost use Rattle.std.specs.Prelude.{◌≡◌, [], ◌∷◌, ◌++◌, ◌||◌, IfOk, OnOk};
 ghost use Rattle.std.specs.List.{filter};
 ghost use Rattle.game_rules.specs.Belonging.{Belongs};
 ghost use Rattle.game_rules.specs.Order.{legal_moves};
@@ -43,7 +43,7 @@ fn deals_to_waste(rules: &Rules) -> bool
 }
 
 /// Appends a move as a step of its own.
-fn push_single(last: Move, out: &mut Vec<Step>) -> Result<(), NoMemory>
+pub(crate) fn push_single(last: Move, out: &mut Vec<Step>) -> Result<(), NoMemory>
     ensures { OnOk result (out.new.items ≡ out.old.items ++ steps_from 0 (last ∷ [])) }
 {
     match out.push(Step { deals: 0, last }) {
@@ -52,23 +52,11 @@ fn push_single(last: Move, out: &mut Vec<Step>) -> Result<(), NoMemory>
     }
 }
 
-/// Appends the legal moves as steps of their own: all of them, or the carries from other places than
-/// the waste alone.
-fn list_single(
-    alloc: Global,
-    rules: &Rules,
-    packed: &Packed,
-    all: bool,
-    out: &mut Vec<Step>,
-) -> Result<(), NoMemory>
-    requires { Belongs rules.now (board_of packed.now) }
-    ensures { OnOk result (out.new.items ≡ out.old.items ++ steps_from 0 (filter (λ m. all || is_from_elsewhere m) (legal_moves rules.now (board_of packed.now)))) }
+/// Appends moves as steps of their own: all of them, or the carries from other places than the waste alone.
+fn push_singles(moves: &[Move], all: bool, out: &mut Vec<Step>) -> Result<(), NoMemory>
+    ensures { OnOk result (out.new.items ≡ out.old.items ++ steps_from 0 (filter (λ m. all || is_from_elsewhere m) moves.now)) }
 {
-    let mut moves = Vec::new(alloc);
-    let Ok(()) = packed.list_moves(alloc, rules, &mut moves) else {
-        return Err(NoMemory);
-    };
-    for m in &moves {
+    for m in moves {
         if is_listed(all, *m) {
             push_single(*m, out)?;
         }
@@ -76,24 +64,38 @@ fn list_single(
     Ok(())
 }
 
-/// Appends the steps of a board without a safe move: every legal move, or, where the stock deals to
-/// the waste, the carries from other places and then the stock steps.
-fn list_free_steps(
+/// Appends the steps of a board without a safe move, of which the legal moves are listed: every legal move, or, where
+/// the stock deals to the waste, the carries from other places and then the stock steps.
+pub(crate) fn list_free_steps(
     alloc: Global,
     rules: &Rules,
     packed: &mut Packed,
+    moves: &[Move],
     out: &mut Vec<Step>,
 ) -> Result<(), NoMemory>
-    requires { Belongs rules.now (board_of packed.old) }
+    requires belongs { Belongs rules.now (board_of packed.old) }
+    requires moves { moves.now ≡ legal_moves rules.now (board_of packed.old) }
     ensures listed { OnOk result (out.new.items ≡ out.old.items ++ free_steps rules.now (board_of packed.old)) }
     ensures as_before { packed.new ≡ packed.old }
 {
     if !deals_to_waste(rules) {
-        return list_single(alloc, rules, packed, true, out);
+        return push_singles(moves, true, out);
     }
-    list_single(alloc, rules, packed, false, out)?;
+    push_singles(moves, false, out)?;
     match list_stock_steps(alloc, rules, packed, out) {
         Ok(()) => Ok(()),
+        Err(_) => Err(NoMemory),
+    }
+}
+
+/// The legal moves of the board in their order.
+pub(crate) fn moves_of(alloc: Global, rules: &Rules, packed: &Packed) -> Result<Vec<Move>, NoMemory>
+    requires { Belongs rules.now (board_of packed.now) }
+    ensures { IfOk result (λ moves. moves.items ≡ legal_moves rules.now (board_of packed.now)) }
+{
+    let mut moves = Vec::new(alloc);
+    match packed.list_moves(alloc, rules, &mut moves) {
+        Ok(()) => Ok(moves),
         Err(_) => Err(NoMemory),
     }
 }
@@ -112,6 +114,9 @@ pub(crate) fn list_steps(
 {
     match first_safe(rules, packed) {
         Some(forced) => push_single(forced, out),
-        None => list_free_steps(alloc, rules, packed, out),
+        None => {
+            let moves = moves_of(alloc, rules, packed)?;
+            list_free_steps(alloc, rules, packed, moves.as_slice(), out)
+        }
     }
 }

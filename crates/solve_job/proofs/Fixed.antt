@@ -12,21 +12,28 @@ use Rattle.game_rules.specs.declared.Move.{Move}
 use Rattle.game_rules.specs.Board.{Board}
 use Rattle.game_rules.specs.Winning.{Won, Line, Winnable}
 use Rattle.stock_steps.specs.declared.Step.{Step}
-use Rattle.stock_steps.specs.Steps.{expand_trail}
+use Rattle.stock_steps.specs.Steps.{after_steps, expand_trail, steps}
 use Rattle.stock_steps.proofs.StepsOnce.{steps-apart}
 use Rattle.line_printer.specs.declared.verdict.Verdict.{Verdict}
 use Rattle.line_printer.specs.declared.verdict.Verdict.TheVariants as verdict
 use Rattle.search_space.specs.Game.{plain_game}
 use Rattle.search_space.proofs.Alike.{plain_game-is_alike}
 use Rattle.same_boards.specs.Same.{Same}
+use Rattle.solve_job.specs.declared.limits.Limits.{Limits}
 use Rattle.solve_job.proofs.Lines.{trail_end}
-use Rattle.solve_job.specs.Verdicts.{IsVerdict, nodes_of}
+use Rattle.solve_job.specs.Verdicts.{IsVerdict, IsPassed, nodes_of}
 
 -- where the start is not winnable, no line wins
 pub no_line_wins : (rules : RuleParts) (start : Board) (moves : List Move) (last : Board) → ¬ Winnable rules start
     → Line rules start moves last → ¬ Won rules last
 no_line_wins rules start moves last never line won =
     never (length moves, record { moves = moves; end = last; short = omega arith; line = line; won = won })
+
+-- the line of a verdict wins
+pub line_wins : (rules : RuleParts) (start : Board) (limits : Limits) (line : List Move) (nodes narrow_nodes : ℕ)
+    → IsVerdict rules start limits (verdict.Winnable line nodes narrow_nodes) → (end : Board) × Line rules start line end × Won rules end
+line_wins rules start limits line nodes narrow_nodes (inl plain) = (after_steps rules start plain.finds.trail, plain.finds.legal, plain.finds.won)
+line_wins rules start limits line nodes narrow_nodes (inr narrow) = (after_steps rules start narrow.finds.trail, narrow.finds.legal, narrow.finds.won)
 
 -- no step stands twice
 plain_steps : (rules : RuleParts) (start : Board) → HasPlainSteps (plain_game rules) start
@@ -58,10 +65,15 @@ record Rests (rules : RuleParts) (start : Board) (cache limit : ℕ) (v : Verdic
   ends : Ends rules start limit walk v
   no_narrow : narrow_of v ≡ 0
 
-rests_on : (rules : RuleParts) (start : Board) (cache limit : ℕ) (v : Verdict) → IsVerdict rules start cache limit v → nodes_of v ≤ cache
-    → Rests rules start cache limit v
-rests_on rules start cache limit (verdict.Winnable line nodes narrow_nodes) is few =
-    let h = is.0 in
+-- without a restricted search no node of one is told
+passed_none : (rules : RuleParts) (start : Board) (limits : Limits) (nodes : ℕ) → IsPassed rules start limits nodes → limits.narrow ≡ 0 → nodes ≡ 0
+passed_none rules start limits nodes (inl none) no_narrow = none.1
+passed_none rules start limits nodes (inr some) no_narrow = absurd (some.0 no_narrow)
+
+rests_on : (rules : RuleParts) (start : Board) (limits : Limits) (v : Verdict) → IsVerdict rules start limits v → limits.narrow ≡ 0
+    → nodes_of v ≤ limits.cache → Rests rules start limits.cache limits.nodes v
+rests_on rules start limits (verdict.Winnable line nodes narrow_nodes) (inl is) none few =
+    let h = is.finds in
     record {
       walk = h.walk;
       is_walk = h.searched.is_walk;
@@ -72,11 +84,12 @@ rests_on rules start cache limit (verdict.Winnable line nodes narrow_nodes) is f
         h.trail,
         h.expands,
         h.follows,
-        subst (Won rules) (sym (trail_end rules (Won rules) (Same rules) start h.trail)) h.won,
+        subst (Won rules) (sym (trail_end rules (steps rules) (Won rules) (Same rules) start h.trail)) h.won,
       );
-      no_narrow = is.1;
+      no_narrow = passed_none rules start limits narrow_nodes is.passed none;
     }
-rests_on rules start cache limit (verdict.Unwinnable nodes narrow_nodes) is few =
+rests_on rules start limits (verdict.Winnable line nodes narrow_nodes) (inr is) none few = absurd (is.restricted none)
+rests_on rules start limits (verdict.Unwinnable nodes narrow_nodes) is none few =
     let h = is.0 in
     record {
       walk = h.walk;
@@ -85,11 +98,12 @@ rests_on rules start cache limit (verdict.Unwinnable nodes narrow_nodes) is few 
       count = h.searched.count;
       within = omega (arith, h.searched.count, h.searched.within);
       ends = h.closed;
-      no_narrow = is.1;
+      no_narrow = passed_none rules start limits narrow_nodes is.1 none;
     }
-rests_on rules start cache limit (verdict.Undecided nodes narrow_nodes) is few =
+rests_on rules start limits (verdict.Undecided nodes narrow_nodes) is none few =
     let h = is.0 in
-    let short : length h.walk ≤ cache = omega (arith, h.searched.count, few) in
+    let e = h.ends in
+    let short : length h.walk ≤ limits.cache = omega (arith, h.searched.count, few) in
     record {
       walk = h.walk;
       is_walk = h.searched.is_walk;
@@ -97,13 +111,13 @@ rests_on rules start cache limit (verdict.Undecided nodes narrow_nodes) is few =
       count = h.searched.count;
       within = omega (arith, h.searched.count, h.searched.within);
       ends = (
-        h.searched.count ∙ h.spent,
-        h.further,
-        h.follows,
-        open_after (plain_game rules) start (plain_game-is_alike rules) cache h.walk h.further h.searched.is_walk h.follows h.fresh short,
-        at_end (plain_game rules) (λ s. ¬ Won rules s) start h.further h.clean.not_won,
+        h.searched.count ∙ e.spent,
+        e.further,
+        e.follows,
+        open_after (plain_game rules) start (plain_game-is_alike rules) limits.cache h.walk e.further h.searched.is_walk e.follows e.fresh short,
+        at_end (plain_game rules) (λ s. ¬ Won rules s) start e.further e.clean.not_won,
       );
-      no_narrow = is.1;
+      no_narrow = passed_none rules start limits narrow_nodes is.1 none;
     }
 
 ended : (rules : RuleParts) (start : Board) (limit : ℕ) (walk : List (List Step)) (v : Verdict) → Ends rules start limit walk v
@@ -149,15 +163,16 @@ module _ (rules : RuleParts) (start : Board) (limit : ℕ) (walk : List (List St
       ap (λ n. verdict.Undecided n narrow_nodes) same ∙ ap (λ k. verdict.Undecided nodes' k) narrow
 
 -- two verdicts of no more nodes than their caches have room for are one
-pub one_verdict : (rules : RuleParts) (start : Board) (cache cache' limit : ℕ) (v w : Verdict)
-    → IsVerdict rules start cache limit v → IsVerdict rules start cache' limit w → nodes_of v ≤ cache → nodes_of w ≤ cache' → v ≡ w
-one_verdict rules start cache cache' limit v w is_v is_w few_v few_w =
-    let a = rests_on rules start cache limit v is_v few_v in
-    let b = rests_on rules start cache' limit w is_w few_w in
-    let short : length a.walk ≤ cache = omega (arith, a.count, few_v) in
-    let short' : length b.walk ≤ cache' = omega (arith, b.count, few_w) in
-    let walks : a.walk ≡ b.walk = one_walk (plain_game rules) start (plain_game-is_alike rules) (plain_steps rules start) limit cache cache' a.walk b.walk
+pub one_verdict : (rules : RuleParts) (start : Board) (limits limits' : Limits) (v w : Verdict) → limits.narrow ≡ 0 → limits'.narrow ≡ 0
+    → limits.nodes ≡ limits'.nodes → IsVerdict rules start limits v → IsVerdict rules start limits' w
+    → nodes_of v ≤ limits.cache → nodes_of w ≤ limits'.cache → v ≡ w
+one_verdict rules start limits limits' v w none none' same is_v is_w few_v few_w =
+    let a = subst (λ limit. Rests rules start limits.cache limit v) same (rests_on rules start limits v is_v none few_v) in
+    let b = rests_on rules start limits' w is_w none' few_w in
+    let short : length a.walk ≤ limits.cache = omega (arith, a.count, few_v) in
+    let short' : length b.walk ≤ limits'.cache = omega (arith, b.count, few_w) in
+    let walks : a.walk ≡ b.walk = one_walk (plain_game rules) start (plain_game-is_alike rules) (plain_steps rules start) limits'.nodes limits.cache limits'.cache a.walk b.walk
     a.is_walk b.is_walk a.fresh b.fresh short short' a.within b.within
-    (ended rules start limit a.walk v a.ends) (ended rules start limit b.walk w b.ends) in
+    (ended rules start limits'.nodes a.walk v a.ends) (ended rules start limits'.nodes b.walk w b.ends) in
     let nodes : nodes_of v ≡ nodes_of w = sym a.count ∙ (ap length walks ∙ b.count) in
-    one_ending rules start limit b.walk b.is_walk v w (subst (λ walk. Ends rules start limit walk v) walks a.ends) b.ends nodes (a.no_narrow ∙ sym b.no_narrow)
+    one_ending rules start limits'.nodes b.walk b.is_walk v w (subst (λ walk. Ends rules start limits'.nodes walk v) walks a.ends) b.ends nodes (a.no_narrow ∙ sym b.no_narrow)

@@ -1,3 +1,4 @@
 pub mod Lines
 pub mod Answering
 pub mod Fixed
+pub mod Narrowing

@@ -1,5 +1,5 @@
 -- Trails of steps are lines of legal moves.
-use Rattle.std.proofs.Common.{◌≡◌, ℕ, zero, suc, ◌+◌, ◌<◌, List, [], ◌∷◌, ◌++◌, length, drop, get_or, refl, ap, sym, ◌∙◌, arith, append_assoc}
+use Rattle.std.proofs.Common.{◌≡◌, ℕ, zero, suc, ◌+◌, ◌<◌, List, [], ◌∷◌, ◌++◌, length, drop, get_or, refl, ap, sym, ◌∙◌, arith, append_assoc, Contains}
 use Rattle.trails.specs.Game.{Game}
 use Rattle.trails.specs.Trails.{end, IsTrail}
 use Rattle.game_rules.specs.declared.RuleParts.{RuleParts}
@@ -8,25 +8,28 @@ use Rattle.game_rules.specs.Conflicts.{IsPlayable}
 use Rattle.game_rules.specs.Board.{Board}
 use Rattle.game_rules.specs.Winning.{Won, Winnable, Wins}
 use Rattle.stock_steps.specs.declared.Step.{Step}
-use Rattle.stock_steps.specs.Steps.{CanAllBeMade, after_step, after_steps, expand, expand_trail, steps}
+use Rattle.stock_steps.specs.Steps.{CanAllBeMade, CanBeMade, after_step, after_steps, expand, expand_trail, steps}
 use Rattle.stock_steps.proofs.StepLines.{playable_draw, steps-made}
 
 -- a game of these steps, whatever counts as won and as the same
-abbrev pub any_game : RuleParts → (Board → Type 0) → (Board → Board → Type 0) → Game Board Step
-any_game rules Won Same = record { steps = steps rules; after = after_step rules; Won = Won; Same = Same }
+abbrev pub any_game : RuleParts → (Board → List Step) → (Board → Type 0) → (Board → Board → Type 0) → Game Board Step
+any_game rules list Won Same = record { steps = list; after = after_step rules; Won = Won; Same = Same }
 
--- each step of a trail can be made
-pub trail_made : (rules : RuleParts) (Won : Board → Type 0) (Same : Board → Board → Type 0) (board : Board) (trail : List Step)
-    → IsPlayable rules → IsTrail (any_game rules Won Same) board trail → CanAllBeMade rules board trail
-trail_made rules Won Same board [] playable is = tt
-trail_made rules Won Same board (step ∷ rest) playable is =
-    (steps-made rules board step (playable_draw rules playable) is.0, trail_made rules Won Same (after_step rules board step) rest playable is.1)
+module _ (rules : RuleParts) (list : Board → List Step) (Won : Board → Type 0) (Same : Board → Board → Type 0) where
+  -- each step of a trail can be made
+  pub trail_made : (board : Board) (trail : List Step) → ((at : Board) (step : Step) → Contains (list at) step → CanBeMade rules at step)
+      → IsTrail (any_game rules list Won Same) board trail → CanAllBeMade rules board trail
+  trail_made board [] made is = tt
+  trail_made board (step ∷ rest) made is = (made board step is.0, trail_made (after_step rules board step) rest made is.1)
 
--- the end of a trail is the board after its steps
-pub trail_end : (rules : RuleParts) (Won : Board → Type 0) (Same : Board → Board → Type 0) (board : Board) (trail : List Step)
-    → end (any_game rules Won Same) board trail ≡ after_steps rules board trail
-trail_end rules Won Same board [] = refl
-trail_end rules Won Same board (step ∷ rest) = trail_end rules Won Same (after_step rules board step) rest
+  -- the end of a trail is the board after its steps
+  pub trail_end : (board : Board) (trail : List Step) → end (any_game rules list Won Same) board trail ≡ after_steps rules board trail
+  trail_end board [] = refl
+  trail_end board (step ∷ rest) = trail_end (after_step rules board step) rest
+
+-- each step of a board can be made
+pub plain_made : (rules : RuleParts) → IsPlayable rules → (at : Board) (step : Step) → Contains (steps rules at) step → CanBeMade rules at step
+plain_made rules playable at step listed = steps-made rules at step (playable_draw rules playable) listed
 
 -- where no number of moves wins, the board is not winnable
 pub not_winnable : (rules : RuleParts) (board : Board) → ((n : ℕ) → ¬ Wins rules n board) → ¬ Winnable rules board

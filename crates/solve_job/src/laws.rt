@@ -7,34 +7,36 @@ ghost use Rattle.game_rules.specs.Board.{Board};
 ghost use Rattle.game_rules.specs.Winning.{Won, Line};
 ghost use Rattle.line_printer.specs.declared.verdict.Verdict.{Verdict};
 ghost use Rattle.line_printer.specs.declared.verdict.Verdict.TheVariants as verdict;
+ghost use Rattle.solve_job.specs.declared.limits.Limits.{Limits};
 ghost use Rattle.solve_job.specs.Verdicts.{IsVerdict, nodes_of};
 
 /// Winnable: each move of the line is legal where it is made, and the last board is won.
 pub fn winnable_means_that_the_line_wins()
-    ensures { (rules : RuleParts) (start : Board) (cache limit : ℕ) (line : List Move) (nodes narrow_nodes : ℕ)
-        → IsVerdict rules start cache limit (verdict.Winnable line nodes narrow_nodes)
+    ensures { (rules : RuleParts) (start : Board) (limits : Limits) (line : List Move) (nodes narrow_nodes : ℕ)
+        → IsVerdict rules start limits (verdict.Winnable line nodes narrow_nodes)
         → (end : Board) × Line rules start line end × Won rules end }
 {}
 
 /// Unwinnable: no list of moves at all, whatever its length, is a line of legal moves to a won board.
 pub fn unwinnable_means_that_no_line_wins()
-    ensures { (rules : RuleParts) (start : Board) (cache limit nodes narrow_nodes : ℕ)
-        → IsVerdict rules start cache limit (verdict.Unwinnable nodes narrow_nodes)
+    ensures { (rules : RuleParts) (start : Board) (limits : Limits) (nodes narrow_nodes : ℕ)
+        → IsVerdict rules start limits (verdict.Unwinnable nodes narrow_nodes)
         → (moves : List Move) (end : Board) → Line rules start moves end → ¬ Won rules end }
 {}
 
 /// Undecided: as many nodes were spent as the limit allows, and no fewer.
 pub fn undecided_means_that_all_nodes_are_spent()
-    ensures { (rules : RuleParts) (start : Board) (cache limit nodes narrow_nodes : ℕ)
-        → IsVerdict rules start cache limit (verdict.Undecided nodes narrow_nodes)
-        → nodes ≡ limit }
+    ensures { (rules : RuleParts) (start : Board) (limits : Limits) (nodes narrow_nodes : ℕ)
+        → IsVerdict rules start limits (verdict.Undecided nodes narrow_nodes)
+        → nodes ≡ limits.nodes }
 {}
 
-/// If no more nodes were spent than the cache has room for, then the rules, the start and the limit fix the verdict
-/// with its line and its nodes: each cache that is large enough leads to the same one.
+/// Where no restricted search comes first and no more nodes were spent than the cache has room for, the rules, the start
+/// and the limit fix the verdict with its line and its nodes: each cache that is large enough leads to the same one.
 pub fn verdicts_within_the_cache_are_fixed()
-    ensures { (rules : RuleParts) (start : Board) (cache cache' limit : ℕ) (one other : Verdict)
-        → IsVerdict rules start cache limit one → IsVerdict rules start cache' limit other
-        → nodes_of one ≤ cache → nodes_of other ≤ cache'
+    ensures { (rules : RuleParts) (start : Board) (limits limits' : Limits) (one other : Verdict)
+        → limits.narrow ≡ 0 → limits'.narrow ≡ 0 → limits.nodes ≡ limits'.nodes
+        → IsVerdict rules start limits one → IsVerdict rules start limits' other
+        → nodes_of one ≤ limits.cache → nodes_of other ≤ limits'.cache
         → one ≡ other }
 {}

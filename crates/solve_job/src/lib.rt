@@ -1,6 +1,7 @@
 //! The solver: a depth-first search over the steps that lose no win, with a memo of a stated size.
 //!
-//! Means: a verdict speaks of one start under its rules. `Limits` are what a search may spend and remember.
+//! Means: a verdict speaks of one start under its rules. `Limits` are what the searches may spend and remember. A
+//! restricted search may come first; it can only find wins.
 //! Above: `solve` answers winnable with a line of legal moves to a won board, unwinnable only where no
 //! such line of any length exists, and undecided only where all nodes are spent. A walk stands behind each.
 //! Refuses: for want of memory alone.
@@ -8,37 +9,28 @@
 #![tactic(auto)]
 
 pub mod laws;
+mod limits;
+mod narrow_search;
+mod plain_search;
 mod search_anew;
 #[cfg(test)]
 mod tests;
 mod trail_line;
 
-ghost use Rattle.std.specs.Prelude.{◌≡◌, ◌≤◌, IfOk, min};
+ghost use Rattle.std.specs.Prelude.{◌≤◌, IfOk, min};
 ghost use Rattle.game_rules.specs.Belonging.{Belongs};
 ghost use Rattle.solve_job.specs.Verdicts.{IsVerdict, IsDecided, IsSmall};
 
 use card_piles::NoMemory;
-use dfs_core::Found;
 use game_model::{Board, Rules};
+pub use limits::{Limits, MemoKind};
 use line_printer::Verdict;
-pub use search_anew::MemoKind;
-use search_anew::{Searched, search_anew};
-use search_space::PlainSpace;
+use narrow_search::{Narrowed, search_narrow};
+use plain_search::search_plain;
 use std::alloc::Global;
-use trail_line::line_of;
 
-/// What a search may spend and remember.
-#[derive(Clone, Copy, Debug, PartialEq, Eq)]
-pub struct Limits {
-    /// How many finished boards are remembered. The boards of the current line are remembered beside them.
-    pub cache: u32,
-    /// How many boards may be expanded.
-    pub nodes: u64,
-    /// Which memo the search asks. No clause of a verdict depends on it.
-    pub memo: MemoKind,
-}
-
-/// Searches for a line to a won board.
+/// Searches for a line to a won board: first as the limits restrict it, if they do, and then, unless that found a win,
+/// with every step that may be needed. Only the plain search says that no line wins, or that it does not know.
 pub fn solve(
     alloc: Global,
     rules: &Rules,
@@ -48,33 +40,17 @@ pub fn solve(
     requires belongs { Belongs rules.now start.now }
     requires some_cache { 1 ≤ limits.now.cache }
     requires some_nodes { 1 ≤ limits.now.nodes }
-    ensures verdict { IfOk result (IsVerdict rules.now start.now limits.now.cache limits.now.nodes) }
+    ensures verdict { IfOk result (IsVerdict rules.now start.now limits.now) }
 
     // Where so few boards cover the game, the verdict is not undecided.
     ensures decides { IsSmall rules.now start.now (min limits.now.nodes limits.now.cache) → IfOk result IsDecided }
 {
-    // This call brings that the rules are playable.
-    let _ = rules.parts();
-    let mut space = PlainSpace::new(rules, start);
-    let Ok(searched) = search_anew(alloc, &mut space, limits.memo, limits.cache, limits.nodes)
-    else {
-        return Err(NoMemory);
-    };
-    let Searched { found, nodes } = searched;
-    let narrow_nodes = 0;
-    match found {
-        Found::Won(trail) => Ok(Verdict::Winnable {
-            line: line_of(alloc, rules, start, trail.items())?,
-            nodes,
-            narrow_nodes,
+    match search_narrow(alloc, rules, start, limits)? {
+        Narrowed::Won { line, nodes } => Ok(Verdict::Winnable {
+            line,
+            nodes: 0,
+            narrow_nodes: nodes,
         }),
-        Found::Exhausted => Ok(Verdict::Unwinnable {
-            nodes,
-            narrow_nodes,
-        }),
-        Found::SpentAll => Ok(Verdict::Undecided {
-            nodes,
-            narrow_nodes,
-        }),
+        Narrowed::Passed { nodes } => search_plain(alloc, rules, start, limits, nodes),
     }
 }

@@ -5,19 +5,11 @@ ghost use Rattle.dfs_core.specs.Play.{game_of};
 ghost use Rattle.dfs_core.specs.Answer.{IsAnswer};
 ghost use Rattle.trails.specs.Complete.{IsComplete};
 
+use crate::limits::MemoKind;
 use dfs_core::{Found, Space, search};
 use node_budget::Budget;
 use std::alloc::Global;
 use transposition::{LinkedMemo, LruMemo, NoMemory};
-
-/// Which memo a search asks. What a verdict says depends on neither.
-#[derive(Clone, Copy, Debug, PartialEq, Eq)]
-pub enum MemoKind {
-    /// One table of keys, linked by index.
-    Linked,
-    /// A set of the current path's keys beside a cache of the finished ones.
-    Lru,
-}
 
 /// What a search found, and how many boards it expanded.
 #[derive(Debug, Drop)]

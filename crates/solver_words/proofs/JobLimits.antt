@@ -9,15 +9,17 @@ use Rattle.solver_words.specs.declared.fault.WordFault.TheVariants.{UnknownComma
 use Rattle.solver_words.specs.declared.job.Job.{Job}
 use Rattle.solver_words.specs.declared.job.Job.TheVariants.{Solve, Replay, Deal, Rules}
 use Rattle.solver_words.specs.declared.job.MemoWord.TheVariants.{Linked}
+use Rattle.solver_words.specs.declared.job.Way.TheVariants.{Both}
 use Rattle.solver_words.specs.declared.job.Source.TheVariants.{File, FromSeed}
 use Rattle.solver_words.specs.declared.options.Setting.{Setting}
-use Rattle.solver_words.specs.declared.options.Setting.TheVariants.{Cache, Nodes, Memo, Seed}
+use Rattle.solver_words.specs.declared.options.Setting.TheVariants.{Cache, Nodes, Narrow, Memo, Seed}
+use Rattle.solver_words.specs.declared.options.Setting.TheVariants as setting
 use Rattle.solver_words.specs.declared.options.Taker.{Taker}
 use Rattle.solver_words.specs.declared.options.Taker.TheVariants.{SolveFile, SolveSeed}
 use Rattle.solver_words.specs.declared.options.Taker.TheVariants as taker
 use Rattle.solver_words.specs.declared.options.Options.{Options}
 use Rattle.solver_words.specs.Numbers.{number_of, number_within, within}
-use Rattle.solver_words.specs.Options.{no_options, setting_at, memo_named, value_at, with_value, options_from}
+use Rattle.solver_words.specs.Options.{no_options, setting_at, memo_named, way_named, value_at, with_value, options_from}
 use Rattle.solver_words.specs.Jobs.{after_name, no_more, names_deal, seed_of, solve_file_of, solve_seed_of, solve_of, replay_of, deal_of, rules_of, job_of, IsWithinLimits}
 use Rattle.solver_words.proofs.Choices.{ok_before}
 
@@ -48,7 +50,7 @@ limits-value_at at low high n word h = limits-within low high n (number_of word)
 
 -- The job that solves with these options has its numbers within their limits.
 abbrev AreWithin : Options → Type 0
-AreWithin given = IsWithinLimits (Solve File (unwrap_or given.cache 100000) (unwrap_or given.nodes 1000000) (unwrap_or given.memo Linked))
+AreWithin given = IsWithinLimits (Solve File (unwrap_or given.cache 100000) (unwrap_or given.nodes 1000000) (unwrap_or given.narrow 0) (unwrap_or given.way Both) (unwrap_or given.memo Linked))
 
 limits-with_value : (at : ℕ) (setting : Setting) (given more : Options) (word : List ℕ) → AreWithin given → with_value at setting given word ≡ Ok more
     → AreWithin more
@@ -56,12 +58,21 @@ limits-with_value at Cache given more word given_within h =
     let (n, is_number, rest) = ok_before (value_at at (number_within 1 4000000 word)) _ more h in
     let limits = limits-value_at at 1 4000000 n word is_number in
     let same : record given { cache = Some n } ≡ more = cc in
-    subst AreWithin same (limits.0, limits.1, given_within.2, given_within.3)
+    subst AreWithin same (limits.0, limits.1, given_within.2, given_within.3, given_within.4)
 limits-with_value at Nodes given more word given_within h =
     let (n, is_number, rest) = ok_before (value_at at (number_within 1 1000000000000 word)) _ more h in
     let limits = limits-value_at at 1 1000000000000 n word is_number in
     let same : record given { nodes = Some n } ≡ more = cc in
-    subst AreWithin same (given_within.0, given_within.1, limits.0, limits.1)
+    subst AreWithin same (given_within.0, given_within.1, limits.0, limits.1, given_within.4)
+limits-with_value at Narrow given more word given_within h =
+    let (n, is_number, rest) = ok_before (value_at at (number_within 0 1000000000000 word)) _ more h in
+    let limits = limits-value_at at 0 1000000000000 n word is_number in
+    let same : record given { narrow = Some n } ≡ more = cc in
+    subst AreWithin same (given_within.0, given_within.1, given_within.2, given_within.3, limits.1)
+limits-with_value at setting.Way given more word given_within h =
+    let (way, is_way, rest) = ok_before (value_at at (way_named word)) _ more h in
+    let same : record given { way = Some way } ≡ more = cc in
+    subst AreWithin same given_within
 limits-with_value at Memo given more word given_within h =
     let (memo, is_memo, rest) = ok_before (value_at at (memo_named word)) _ more h in
     let same : record given { memo = Some memo } ≡ more = cc in
@@ -86,15 +97,15 @@ limits-solve_file_of : (words : List (List ℕ)) (job : Job) → solve_file_of w
 limits-solve_file_of words job h =
     let (one, is_one, h1) = ok_before (after_name words) _ job h in
     let (given, is_given, h2) = ok_before (options_from SolveFile 3 no_options one) _ job h1 in
-    let same : Solve File (unwrap_or given.cache 100000) (unwrap_or given.nodes 1000000) (unwrap_or given.memo Linked) ≡ job = cc in
-    subst IsWithinLimits same (limits-options_from SolveFile 3 no_options given one (lit≤ tt, lit≤ tt, lit≤ tt, lit≤ tt) is_given)
+    let same : Solve File (unwrap_or given.cache 100000) (unwrap_or given.nodes 1000000) (unwrap_or given.narrow 0) (unwrap_or given.way Both) (unwrap_or given.memo Linked) ≡ job = cc in
+    subst IsWithinLimits same (limits-options_from SolveFile 3 no_options given one (lit≤ tt, lit≤ tt, lit≤ tt, lit≤ tt, lit≤ tt) is_given)
 
 limits-solve_seed_of : (words : List (List ℕ)) (job : Job) → solve_seed_of words ≡ Ok job → IsWithinLimits job
 limits-solve_seed_of words job h =
     let (given, is_given, h1) = ok_before (options_from SolveSeed 2 no_options words) _ job h in
     let (seed, is_seed, h2) = ok_before (seed_of given.seed) _ job h1 in
-    let same : Solve (FromSeed seed) (unwrap_or given.cache 100000) (unwrap_or given.nodes 1000000) (unwrap_or given.memo Linked) ≡ job = cc in
-    subst IsWithinLimits same (limits-options_from SolveSeed 2 no_options given words (lit≤ tt, lit≤ tt, lit≤ tt, lit≤ tt) is_given)
+    let same : Solve (FromSeed seed) (unwrap_or given.cache 100000) (unwrap_or given.nodes 1000000) (unwrap_or given.narrow 0) (unwrap_or given.way Both) (unwrap_or given.memo Linked) ≡ job = cc in
+    subst IsWithinLimits same (limits-options_from SolveSeed 2 no_options given words (lit≤ tt, lit≤ tt, lit≤ tt, lit≤ tt, lit≤ tt) is_given)
 
 -- where one of two readings is chosen, what holds of both holds of it
 either : (b : Bool) (first second : Result Job WordFault) (job : Job) → (first ≡ Ok job → IsWithinLimits job) → (second ≡ Ok job → IsWithinLimits job)

@@ -7,6 +7,7 @@ use Rattle.solver_words.specs.declared.fault.WordFault.TheVariants.{NoCommand, U
 use Rattle.solver_words.specs.declared.job.Job.{Job}
 use Rattle.solver_words.specs.declared.job.Job.TheVariants as job
 use Rattle.solver_words.specs.declared.job.MemoWord.TheVariants.{Linked}
+use Rattle.solver_words.specs.declared.job.Way.TheVariants.{Both}
 use Rattle.solver_words.specs.declared.job.Source.TheVariants.{File, FromSeed}
 use Rattle.solver_words.specs.declared.options.Taker.TheVariants as taker
 use Rattle.solver_words.specs.Choice.{◌>>=◌}
@@ -40,13 +41,13 @@ seed_of (Some seed) = Ok seed
 abbrev pub solve_file_of : List (List ℕ) → Result Job WordFault
 solve_file_of words =
     after_name words >>= λ words. options_from taker.SolveFile 3 no_options words >>= λ given.
-    Ok (job.Solve File (unwrap_or given.cache 100000) (unwrap_or given.nodes 1000000) (unwrap_or given.memo Linked))
+    Ok (job.Solve File (unwrap_or given.cache 100000) (unwrap_or given.nodes 1000000) (unwrap_or given.narrow 0) (unwrap_or given.way Both) (unwrap_or given.memo Linked))
 
 -- the same with no name of a deal: options, a seed among them
 abbrev pub solve_seed_of : List (List ℕ) → Result Job WordFault
 solve_seed_of words =
     options_from taker.SolveSeed 2 no_options words >>= λ given. seed_of given.seed >>= λ seed.
-    Ok (job.Solve (FromSeed seed) (unwrap_or given.cache 100000) (unwrap_or given.nodes 1000000) (unwrap_or given.memo Linked))
+    Ok (job.Solve (FromSeed seed) (unwrap_or given.cache 100000) (unwrap_or given.nodes 1000000) (unwrap_or given.narrow 0) (unwrap_or given.way Both) (unwrap_or given.memo Linked))
 
 -- after `solve`: the name of the rules, then that of a deal or a seed
 abbrev pub solve_of : List (List ℕ) → Result Job WordFault
@@ -80,15 +81,15 @@ job_of (command ∷ words) =
 
 -- how many files the job has, which the words from 1 on name
 abbrev pub name_count : Job → ℕ
-name_count (job.Solve File cache nodes memo) = 2
-name_count (job.Solve (FromSeed seed) cache nodes memo) = 1
+name_count (job.Solve File cache nodes narrow way memo) = 2
+name_count (job.Solve (FromSeed seed) cache nodes narrow way memo) = 1
 name_count job.Replay = 3
 name_count (job.Deal seed) = 1
 name_count job.Rules = 1
 
 -- the numbers of the job are within their limits; a seed may be any number
 abbrev pub IsWithinLimits : Job → Type 0
-IsWithinLimits (job.Solve source cache nodes memo) = (1 ≤ cache) × (cache ≤ 4000000) × (1 ≤ nodes) × (nodes ≤ 1000000000000)
+IsWithinLimits (job.Solve source cache nodes narrow way memo) = (1 ≤ cache) × (cache ≤ 4000000) × (1 ≤ nodes) × (nodes ≤ 1000000000000) × (narrow ≤ 1000000000000)
 IsWithinLimits job.Replay = ⊤
 IsWithinLimits (job.Deal seed) = ⊤
 IsWithinLimits job.Rules = ⊤

@@ -9,6 +9,17 @@ pub enum Source {
     FromSeed(u64),
 }
 
+/// How the restricted search goes that comes first.
+#[derive(Clone, Copy, Debug, PartialEq, Eq)]
+pub enum Way {
+    /// The first carry to a foundation is taken alone.
+    Foundations,
+    /// Boards that are the same up to the suits of a colour count as the same.
+    Suits,
+    /// The two together.
+    Both,
+}
+
 /// Which memo the search asks. No verdict depends on it.
 #[derive(Clone, Copy, Debug, PartialEq, Eq)]
 pub enum MemoWord {
@@ -22,11 +33,14 @@ pub enum MemoWord {
 #[derive(Clone, Copy, Debug, PartialEq, Eq)]
 pub enum Job {
     /// Solves the deal under the rules. At most `cache` finished boards are remembered, 1 to 4,000,000,
-    /// and at most `nodes` boards are expanded, 1 to 1,000,000,000,000. The boards are remembered in `memo`.
+    /// and at most `nodes` boards are expanded, 1 to 1,000,000,000,000. First a search that is restricted in
+    /// its `way` expands at most `narrow` boards, 0 to 1,000,000,000,000. The boards are remembered in `memo`.
     Solve {
         source: Source,
         cache: u32,
         nodes: u64,
+        narrow: u64,
+        way: Way,
         memo: MemoWord,
     },
     /// Replays the line from the deal under the rules.

@@ -16,5 +16,5 @@ mod tests;
 mod words;
 
 pub use fault::WordFault;
-pub use job::{Job, MemoWord, Source};
+pub use job::{Job, MemoWord, Source, Way};
 pub use words::read_words;

@@ -1,10 +1,10 @@
 //! The options of a command.
 ghost use Rattle.std.specs.Prelude.{◌≡◌, ◌+◌, ◌<◌, ◌^◌, length};
-ghost use Rattle.solver_words.specs.Options.{has_option, setting_named as setting_named_of, memo_named as memo_named_of, setting_of, is_given, setting_at, with_value as with_value_of, options_from, no_options};
+ghost use Rattle.solver_words.specs.Options.{has_option, setting_named as setting_named_of, memo_named as memo_named_of, way_named as way_named_of, setting_of, is_given, setting_at, with_value as with_value_of, options_from, no_options};
 ghost use Rattle.solver_words.specs.Texts.{texts};
 
 use crate::number::number_within;
-use crate::{MemoWord, WordFault};
+use crate::{MemoWord, Way, WordFault};
 
 const MOST_CACHE: u64 = 4_000_000;
 
@@ -15,6 +15,8 @@ const MOST_NODES: u64 = 1_000_000_000_000;
 pub enum Setting {
     Cache,
     Nodes,
+    Narrow,
+    Way,
     Memo,
     Seed,
 }
@@ -35,6 +37,8 @@ pub enum Taker {
 pub struct Options {
     pub cache: Option<u32>,
     pub nodes: Option<u64>,
+    pub narrow: Option<u64>,
+    pub way: Option<Way>,
     pub memo: Option<MemoWord>,
     pub seed: Option<u64>,
 }
@@ -45,8 +49,21 @@ fn setting_named(word: &str) -> Option<Setting>
     match word {
         "--cache" => Some(Setting::Cache),
         "--nodes" => Some(Setting::Nodes),
+        "--narrow" => Some(Setting::Narrow),
+        "--way" => Some(Setting::Way),
         "--memo" => Some(Setting::Memo),
         "--seed" => Some(Setting::Seed),
+        _ => None,
+    }
+}
+
+fn way_named(word: &str) -> Option<Way>
+    ensures { result ≡ way_named_of word.now }
+{
+    match word {
+        "foundations" => Some(Way::Foundations),
+        "suits" => Some(Way::Suits),
+        "both" => Some(Way::Both),
         _ => None,
     }
 }
@@ -90,6 +107,8 @@ impl Options {
         match setting {
             Setting::Cache => self.cache.is_some(),
             Setting::Nodes => self.nodes.is_some(),
+            Setting::Narrow => self.narrow.is_some(),
+            Setting::Way => self.way.is_some(),
             Setting::Memo => self.memo.is_some(),
             Setting::Seed => self.seed.is_some(),
         }
@@ -113,35 +132,50 @@ fn read_setting(taker: Taker, at: u32, word: &str, given: &Options) -> Result<Se
 fn with_value(at: u32, setting: Setting, given: Options, word: &str) -> Result<Options, WordFault>
     ensures { result ≡ with_value_of at setting given word.now }
 {
+    let fault = WordFault::BadOptionValue(at);
     match setting {
-        Setting::Cache => match number_within(1, MOST_CACHE, word) {
-            Some(cache) => Ok(Options {
+        Setting::Cache => {
+            let cache = number_within(1, MOST_CACHE, word).ok_or(fault)?;
+            Ok(Options {
                 cache: Some(cache as u32),
                 ..given
-            }),
-            None => Err(WordFault::BadOptionValue(at)),
-        },
-        Setting::Nodes => match number_within(1, MOST_NODES, word) {
-            Some(nodes) => Ok(Options {
+            })
+        }
+        Setting::Nodes => {
+            let nodes = number_within(1, MOST_NODES, word).ok_or(fault)?;
+            Ok(Options {
                 nodes: Some(nodes),
                 ..given
-            }),
-            None => Err(WordFault::BadOptionValue(at)),
-        },
-        Setting::Memo => match memo_named(word) {
-            Some(memo) => Ok(Options {
+            })
+        }
+        Setting::Narrow => {
+            let narrow = number_within(0, MOST_NODES, word).ok_or(fault)?;
+            Ok(Options {
+                narrow: Some(narrow),
+                ..given
+            })
+        }
+        Setting::Way => {
+            let way = way_named(word).ok_or(fault)?;
+            Ok(Options {
+                way: Some(way),
+                ..given
+            })
+        }
+        Setting::Memo => {
+            let memo = memo_named(word).ok_or(fault)?;
+            Ok(Options {
                 memo: Some(memo),
                 ..given
-            }),
-            None => Err(WordFault::BadOptionValue(at)),
-        },
-        Setting::Seed => match number_within(0, u64::MAX, word) {
-            Some(seed) => Ok(Options {
+            })
+        }
+        Setting::Seed => {
+            let seed = number_within(0, u64::MAX, word).ok_or(fault)?;
+            Ok(Options {
                 seed: Some(seed),
                 ..given
-            }),
-            None => Err(WordFault::BadOptionValue(at)),
-        },
+            })
+        }
     }
 }
 
@@ -154,6 +188,8 @@ pub fn read_options(taker: Taker, first: u32, words: &[String]) -> Result<Option
     let mut given = Options {
         cache: None,
         nodes: None,
+        narrow: None,
+        way: None,
         memo: None,
         seed: None,
     };

@@ -4,16 +4,19 @@ use std::alloc::{AllocError, Global};
 use std::test::Fail;
 
 /// The words, each after a blank, then ` = ` and what they name.
-const ROWS: &str = "solve R D = solve File 100000 1000000 Linked
-solve -x  = solve File 100000 1000000 Linked
-solve R D --nodes 1 = solve File 100000 1 Linked
-solve R D --nodes 1000000000000 = solve File 100000 1000000000000 Linked
-solve R D --cache 1 = solve File 1 1000000 Linked
-solve R D --cache 4000000 = solve File 4000000 1000000 Linked
-solve R D --nodes 5 --memo lru --cache 7 = solve File 7 5 Lru
-solve R D --memo linked = solve File 100000 1000000 Linked
-solve R --seed 0 = solve FromSeed(0) 100000 1000000 Linked
-solve R --memo lru --seed 18446744073709551615 = solve FromSeed(18446744073709551615) 100000 1000000 Lru
+const ROWS: &str = "solve R D = solve File 100000 1000000 0 Both Linked
+solve -x  = solve File 100000 1000000 0 Both Linked
+solve R D --nodes 1 = solve File 100000 1 0 Both Linked
+solve R D --nodes 1000000000000 = solve File 100000 1000000000000 0 Both Linked
+solve R D --cache 1 = solve File 1 1000000 0 Both Linked
+solve R D --cache 4000000 = solve File 4000000 1000000 0 Both Linked
+solve R D --nodes 5 --memo lru --cache 7 = solve File 7 5 0 Both Lru
+solve R D --narrow 0 --way suits = solve File 100000 1000000 0 Suits Linked
+solve R D --way both --narrow 1000000000000 = solve File 100000 1000000 1000000000000 Both Linked
+solve R --way foundations --seed 1 = solve FromSeed(1) 100000 1000000 0 Foundations Linked
+solve R D --memo linked = solve File 100000 1000000 0 Both Linked
+solve R --seed 0 = solve FromSeed(0) 100000 1000000 0 Both Linked
+solve R --memo lru --seed 18446744073709551615 = solve FromSeed(18446744073709551615) 100000 1000000 0 Both Lru
 deal R --seed 42 = Deal { seed: 42 }
 replay R D L = Replay
 rules - = Rules
@@ -44,6 +47,11 @@ solve R D --nodes 1000000000001 = bad-option-value 4
 solve R D --nodes x --what = bad-option-value 4
 solve R D --cache 4000001 = bad-option-value 4
 solve R D --cache 4294967297 = bad-option-value 4
+solve R D --narrow 1000000000001 = bad-option-value 4
+solve R D --way suit = bad-option-value 4
+solve R D --narrow 1 --narrow 1 = repeated-option 5
+solve R D --nodes 5 --way = missing-value 5
+deal R --narrow 5 = unknown-option 2
 solve R D --memo LRU = bad-option-value 4
 solve R D --memo  = bad-option-value 4
 solve R D --nodes 5 --cache 0 = bad-option-value 6";
@@ -64,9 +72,11 @@ fn text_of(alloc: Global, read: Result<Job, WordFault>) -> Result<String, AllocE
                 source,
                 cache,
                 nodes,
+                narrow,
+                way,
                 memo,
             },
-        ) => format!(in alloc; "solve {source:?} {cache} {nodes} {memo:?}"),
+        ) => format!(in alloc; "solve {source:?} {cache} {nodes} {narrow} {way:?} {memo:?}"),
         Ok(job) => format!(in alloc; "{job:?}"),
         Err(fault) => format!(in alloc; "{fault}"),
     }

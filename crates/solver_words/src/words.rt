@@ -4,7 +4,7 @@ ghost use Rattle.solver_words.specs.Texts.{texts};
 ghost use Rattle.solver_words.specs.Jobs.{is_name as is_name_of, after_name as after_name_of, no_more as no_more_of, names_deal as names_deal_of, solve_file_of, solve_seed_of, solve_of, replay_of, deal_of, rules_of, job_of, name_count, IsWithinLimits};
 
 use crate::options::{Taker, read_options};
-use crate::{Job, MemoWord, Source, WordFault};
+use crate::{Job, MemoWord, Source, Way, WordFault};
 
 const DEFAULT_CACHE: u32 = 100_000;
 
@@ -60,6 +60,8 @@ fn solve_file(words: &[String]) -> Result<Job, WordFault>
         source: Source::File,
         cache: given.cache.unwrap_or(DEFAULT_CACHE),
         nodes: given.nodes.unwrap_or(DEFAULT_NODES),
+        narrow: given.narrow.unwrap_or(0),
+        way: given.way.unwrap_or(Way::Both),
         memo: given.memo.unwrap_or(MemoWord::Linked),
     })
 }
@@ -77,6 +79,8 @@ fn solve_seed(words: &[String]) -> Result<Job, WordFault>
         source: Source::FromSeed(seed),
         cache: given.cache.unwrap_or(DEFAULT_CACHE),
         nodes: given.nodes.unwrap_or(DEFAULT_NODES),
+        narrow: given.narrow.unwrap_or(0),
+        way: given.way.unwrap_or(Way::Both),
         memo: given.memo.unwrap_or(MemoWord::Linked),
     })
 }

@@ -1,62 +1,12 @@
-use Rattle.std.proofs.Common.{◌∙◌, List, refl, ap, sym, subst}
-use Rattle.dfs_core.specs.declared.trail.Found.TheVariants as found
-use Rattle.dfs_core.specs.Answer.{IsAnswer}
-use Rattle.game_rules.specs.declared.RuleParts.{RuleParts}
-use Rattle.game_rules.specs.Board.{Board}
-use Rattle.game_rules.specs.Winning.{Won}
-use Rattle.stock_steps.specs.declared.Step.{Step}
-use Rattle.stock_steps.specs.Steps.{CanAllBeMade, expand_trail}
-use Rattle.search_space.proofs.Agreeing.{agrees, keyed_game}
-use Rattle.solve_job.specs.Verdicts.{IsWinnable, IsUndecided}
-use Rattle.solve_job.proofs.Lines.{trail_made}
-use Rattle.solve_job.proofs.Answering.{answer_of, never_wins, winnable, unwinnable, undecided, not_small}
+use Rattle.std.proofs.Common.{inr, refl, subst}
+use Rattle.solve_job.specs.Narrowing.{IsNarrowed}
 use Rattle.solve_job.proofs.solve.Goals as goal
 
--- what the search answered where it found a win
-won_here : (c : goal.After-items) → IsAnswer (keyed_game c.args.rules.now) c.args.start.now c.args.limits.now.cache 0 c.in-Ok.searched.nodes c.args.limits.now.nodes (found.Won c.in-Won.trail)
-won_here c =
-    answer_of c.args.rules.now _ c.args.start.now _ c.args.limits.now.cache c.args.limits.now.nodes c.in-Ok.searched.nodes
-    (found.Won c.in-Won.trail) _ c.new-space.ensures.rules c.new-space.ensures.stands c.in-Won.is c.in-Ok.ensures.answer
+pub returns-in-Won-clause-verdict : goal.returns-in-Won-clause-verdict
+returns-in-Won-clause-verdict c =
+    let won = subst (IsNarrowed c.args.rules.now c.args.start.now c.args.limits.now) c.in-Won.is c.in_ok-search_narrow.ensures in
+    inr (record { restricted = won.0; no_node = refl; finds = won.1 })
 
-pub line_of-requires-clause-made : goal.line_of-requires-clause-made
-line_of-requires-clause-made c =
-    subst (λ (trail : List Step). CanAllBeMade c.args.rules.now c.args.start.now trail) (sym c.items.ensures)
-    (trail_made c.args.rules.now (Won c.args.rules.now) (keyed_game c.args.rules.now).Same c.args.start.now c.in-Won.trail
-    c.parts.ensures.playable (won_here c).ends.1)
-
-pub returns-in_ok-line_of-in-Won-clause-verdict : goal.returns-in_ok-line_of-in-Won-clause-verdict
-returns-in_ok-line_of-in-Won-clause-verdict c =
-    let rules : RuleParts = c.args.rules.now in
-    let start : Board = c.args.start.now in
-    let agree = agrees rules start c.parts.ensures.playable c.requires.belongs in
-    let answer = answer_of rules _ start _ c.args.limits.now.cache c.args.limits.now.nodes c.in-Ok.searched.nodes
-    (found.Won c.in-Won.trail) _ c.new-space.ensures.rules c.new-space.ensures.stands c.in-Won.is c.in-Ok.ensures.answer in
-    let wins = winnable rules start c.args.limits.now.cache c.args.limits.now.nodes c.in-Ok.searched.nodes agree c.in-Ok.ensures.within
-    c.in-Won.trail c.parts.ensures.playable answer in (
-      subst (λ line. IsWinnable rules start c.args.limits.now.cache c.args.limits.now.nodes line c.in-Ok.searched.nodes)
-          (sym (c.in_ok-line_of-in-Won.ensures ∙ ap (expand_trail rules start) c.items.ensures)) wins,
-      refl,
-    )
-
-pub returns-in-Exhausted-clause-verdict : goal.returns-in-Exhausted-clause-verdict
-returns-in-Exhausted-clause-verdict c =
-    let agree = agrees c.args.rules.now c.args.start.now c.parts.ensures.playable c.requires.belongs in
-    let answer = answer_of c.args.rules.now _ c.args.start.now _ c.args.limits.now.cache c.args.limits.now.nodes c.in-Ok.searched.nodes
-    found.Exhausted _ c.new-space.ensures.rules c.new-space.ensures.stands c.in-Exhausted.is c.in-Ok.ensures.answer in
-    let never = never_wins c.args.rules.now _ c.args.start.now _ c.new-space.ensures.rules c.new-space.ensures.stands c.new-space.ensures.complete
-    (c.in-Ok.ensures.no_win c.in-Exhausted.is) in
-    (unwinnable c.args.rules.now c.args.start.now c.args.limits.now.cache c.args.limits.now.nodes c.in-Ok.searched.nodes agree c.in-Ok.ensures.within answer never, refl)
-
--- the nodes ran out
-undecided_here : (c : goal.In-SpentAll) → IsUndecided c.args.rules.now c.args.start.now c.args.limits.now.cache c.args.limits.now.nodes c.in-Ok.searched.nodes
-undecided_here c =
-    let agree = agrees c.args.rules.now c.args.start.now c.parts.ensures.playable c.requires.belongs in
-    let answer = answer_of c.args.rules.now _ c.args.start.now _ c.args.limits.now.cache c.args.limits.now.nodes c.in-Ok.searched.nodes
-    found.SpentAll _ c.new-space.ensures.rules c.new-space.ensures.stands c.in-SpentAll.is c.in-Ok.ensures.answer in
-    undecided c.args.rules.now c.args.start.now c.args.limits.now.cache c.args.limits.now.nodes c.in-Ok.searched.nodes agree c.in-Ok.ensures.within answer
-
-pub returns-in-SpentAll-clause-verdict : goal.returns-in-SpentAll-clause-verdict
-returns-in-SpentAll-clause-verdict c = (undecided_here c, refl)
-
-pub returns-in-SpentAll-clause-decides : goal.returns-in-SpentAll-clause-decides
-returns-in-SpentAll-clause-decides c = not_small c.args.rules.now c.args.start.now c.args.limits.now.cache c.args.limits.now.nodes c.in-Ok.searched.nodes (undecided_here c)
+pub search_plain-requires-clause-passed : goal.search_plain-requires-clause-passed
+search_plain-requires-clause-passed c =
+    subst (IsNarrowed c.args.rules.now c.args.start.now c.args.limits.now) c.in-Passed.is c.in_ok-search_narrow.ensures

@@ -11,7 +11,7 @@ use Rattle.patience.proofs.starts.fetch_start.Goals as goal
 
 pub fetch_deal-requires-clause-takes : goal.fetch_deal-requires-clause-takes
 fetch_deal-requires-clause-takes g c =
-    ap takes_deal c.job.ensures ∙ ap (λ (s : Source). takes_deal (Solve s c.args.asked.cache c.args.asked.nodes c.args.asked.memo)) c.in-File.is
+    ap takes_deal c.job.ensures ∙ ap (λ (s : Source). takes_deal (Solve s c.args.asked.cache c.args.asked.nodes c.args.asked.narrow c.args.asked.way c.args.asked.memo)) c.in-File.is
 
 pub returns-in-File-clause-accepted : goal.returns-in-File-clause-accepted
 returns-in-File-clause-accepted g c = IfOk-weaker c.fetch_deal.result _ _ (λ board has. inl (subst (λ (j : Job). HasDeal (g.S.Shelf.files c.args.shelf.now) (texts c.args.words.now) j c.args.rules.now board) c.job.ensures has)) c.fetch_deal.ensures.accepted
@@ -27,5 +27,5 @@ returns-in-FromSeed-clause-stopped g c =
     (λ stop stopped. seed-stopped
     (record { files = g.S.Shelf.files c.args.shelf.now; before = g.S.Shelf.faults c.args.shelf.now; after = g.S.Shelf.faults c.args.shelf.now })
     (texts c.args.words.now) (job_asked c.args.asked) c.args.rules.now c.in-FromSeed.seed stop
-    c.requires (ap (λ (s : Source). seed_of (Solve s c.args.asked.cache c.args.asked.nodes c.args.asked.memo)) c.in-FromSeed.is) stopped)
+    c.requires (ap (λ (s : Source). seed_of (Solve s c.args.asked.cache c.args.asked.nodes c.args.asked.narrow c.args.asked.way c.args.asked.memo)) c.in-FromSeed.is) stopped)
     c.deal_seed.ensures.refused

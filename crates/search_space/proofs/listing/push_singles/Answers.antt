@@ -4,20 +4,18 @@ use Rattle.std.proofs.lemmas.List.{take_all}
 use Rattle.game_rules.specs.declared.Move.{Move}
 use Rattle.game_rules.specs.declared.Move.TheVariants.{Carry}
 use Rattle.game_rules.specs.declared.Place.TheVariants.{Tableau}
-use Rattle.game_rules.specs.Order.{legal_moves}
-use Rattle.packed_state.specs.Packed.{board_of}
 use Rattle.stock_steps.specs.declared.Step.{Step}
 use Rattle.stock_steps.specs.Steps.{is_from_elsewhere, steps_from}
 use Rattle.search_space.proofs.Singles.{singles-more, singles-none}
-use Rattle.search_space.proofs.listing.list_single.Goals.{then-is_listed+in_ok-push_single, else-is_listed}
-use Rattle.search_space.proofs.listing.list_single.Goals as goal
+use Rattle.search_space.proofs.listing.push_singles.Goals.{then-is_listed+in_ok-push_single, else-is_listed}
+use Rattle.search_space.proofs.listing.push_singles.Goals as goal
 
 pub loop-m-init : goal.loop-m-init
 loop-m-init c = sym (append-nil c.args.out.now.items)
 
 pub loop-m-preserved : goal.loop-m-preserved
 loop-m-preserved c =
-    let moves : List Move = c.deref-m-items.result.now in
+    let moves : List Move = c.args.moves.now in
     let test : Move → Bool = λ m. c.args.all || is_from_elsewhere m in
     let blank : Move = Carry (Tableau 0) (Tableau 0) 0 in
     let item : Move = get_or moves c.loop-m.m-index blank in
@@ -36,10 +34,6 @@ loop-m-preserved c =
 
 pub returns : goal.returns
 returns c =
-    let moves : List Move = c.deref-m-items.result.now in
-    let all : take c.loop-m.m-index moves ≡ moves = take_all c.loop-m.m-index moves c.loop-m-test.false in
-    let listed : c.list_moves.new.out.items ≡ legal_moves c.args.rules.now (board_of c.args.packed.now) =
-    c.in-Ok.ensures.ok ∙ ap (λ (ms : List Move). ms ++ legal_moves c.args.rules.now (board_of c.args.packed.now)) c.new-moves.ensures.items in
     c.loop-m.invariant
     ∙ ap (λ (ms : List Move). c.args.out.now.items ++ steps_from 0 (filter (λ m. c.args.all || is_from_elsewhere m) ms))
-    (all ∙ c.deref-m-items.ensures.value ∙ listed)
+    (take_all c.loop-m.m-index c.args.moves.now c.loop-m-test.false)
