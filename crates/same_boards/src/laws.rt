@@ -35,7 +35,7 @@ pub fn same_boards_move_alike()
         → (other : Move) × Legal rules b other × Same rules (after rules a move) (after rules b other) }
 {}
 
-/// Two boards of the same rules have one key exactly where they are the same.
+/// Two boards of the same rules have one key exactly if they are the same.
 pub fn keys_tell_boards_apart()
     ensures key { (rules : RuleParts) (a b : Board) → IsPlayable rules → Belongs rules a → Belongs rules b
         → (key_bytes rules a ≡ key_bytes rules b) ↔ Same rules a b }
@@ -57,14 +57,14 @@ pub fn same_colours_are_an_equivalence()
         → SameColours rules a b → SameColours rules b c → SameColours rules a c }
 {}
 
-/// A card's byte in a colour key is its rank, and 13 more where the card is red.
+/// A card's byte in a colour key is its rank, and 13 more if the card is red.
 pub fn a_colour_byte_tells_colour_and_rank()
     ensures byte { (suit : Suit) (rank : ℕ) → 1 ≤ rank
         → card_byte (coloured (record { suit = suit; rank = rank }))
         ≡ (if is_red suit then rank + 13 else rank) }
 {}
 
-/// Two boards of the same rules have one colour key exactly where they are the same up to the suits of a colour.
+/// Two boards of the same rules have one colour key exactly if they are the same up to the suits of a colour.
 pub fn colour_keys_tell_boards_apart()
     ensures key { (rules : RuleParts) (a b : Board) → IsPlayable rules → Belongs rules a → Belongs rules b
         → (colour_key_bytes rules a ≡ colour_key_bytes rules b) ↔ SameColours rules a b }

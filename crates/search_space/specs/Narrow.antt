@@ -12,7 +12,7 @@ use Rattle.stock_steps.specs.Steps.{after_step, forced_or, steps}
 use Rattle.streamliner.specs.declared.Streamliner.{Streamliner}
 use Rattle.streamliner.specs.Narrow.{narrow, is_coarse}
 
--- the first carry to a foundation among all legal moves alone, where the way takes it and there is one, else the steps
+-- the first carry to a foundation among all legal moves alone, if the way takes it and there is one, else the steps
 abbrev pub narrow_steps : RuleParts → Streamliner → Board → List Step
 narrow_steps rules way board = forced_or (narrow way (legal_moves rules board)) (steps rules board)
 

@@ -7,11 +7,11 @@ use Rattle.game_rules.specs.Board.{Board}
 use Rattle.game_rules.specs.Play.{after}
 use Rattle.game_rules.specs.StockMoves.{IsNextByStock, stock_move}
 
--- the number of cards in the stock after the next stock move, where the board has one
+-- the number of cards in the stock after the next stock move, if the board has one
 abbrev pub next_stock : RuleParts → Board → Option ℕ
 next_stock rules board = option_map (λ move. length (after rules board move).stock) (stock_move rules board)
 
--- a stock move leads to a board that the run does not have. Where redeals are unlimited, its stock is not
+-- a stock move leads to a board that the run does not have. If redeals are unlimited, its stock is not
 -- as long as the first one, and not empty if one of the run was empty
 pub record GoesOn (rules : RuleParts) (board : Board) (first : ℕ) (emptied : Bool) : Type 0 where
   pub next : Board

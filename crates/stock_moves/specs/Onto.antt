@@ -19,6 +19,6 @@ place_in Slots i = Slot i
 place_in Piles i = Tableau i
 place_in Cells i = Cell i
 
--- the carry from the waste to a place as a step after so many stock moves, where it is legal
+-- the carry from the waste to a place as a step after so many stock moves, if it is legal
 abbrev pub steps_onto : RuleParts → Board → ℕ → Place → List Step
 steps_onto rules board deals to = steps_from deals (filter (is_legal_move rules board) (Carry Waste to 1 ∷ []))

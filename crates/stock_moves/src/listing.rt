@@ -1,7 +1,7 @@
 //! The list of stock steps.
 //!
 //! The stock is dealt out move by move, and each board on the way gives its carries from the waste.
-//! Where redeals are unlimited, the run ends at the first board that comes again: stock moves only
+//! If redeals are unlimited, the run ends at the first board that comes again: stock moves only
 //! shift the border between stock and waste, so the length of the stock tells the board.
 ghost use Rattle.std.specs.Prelude.{◌≡◌, ◌≢◌, ℕ, ◌↔◌, ◌++◌, IsTrue, OnOk, OnErr};
 ghost use Rattle.game_rules.specs.Belonging.{Belongs};

@@ -93,7 +93,7 @@ abbrev pub same_stock : Board → Board → Bool
 same_stock a b =
     same_cards a.stock b.stock && same_cards a.waste b.waste && (a.redeals_left == b.redeals_left)
 
--- the board after its next stock move, where it has one that leads to none of the boards seen
+-- the board after its next stock move, if it has one that leads to none of the boards seen
 abbrev pub next_stock_board : RuleParts → List Board → Board → Option Move → Option Board
 next_stock_board rules seen board None = None
 next_stock_board rules seen board (Some move) =

@@ -24,6 +24,6 @@ is_coarse AutoFoundations = false
 is_coarse SuitSymmetry = true
 is_coarse Both = true
 
--- the first carry to a foundation among the moves, where it is taken alone
+-- the first carry to a foundation among the moves, if it is taken alone
 abbrev pub narrow : Streamliner → List Move → Option Move
 narrow way moves = if is_narrow way then find is_carry_home moves else None

@@ -1,9 +1,9 @@
 //! Streamliners: ways to restrict a search, which may lose wins.
 //!
 //! Means: under `AutoFoundations` the first carry to a foundation is the only step of a board that has one. Under
-//! `SuitSymmetry` a board counts as known where it is the same as a known one up to the suits of a colour. `Both` is
+//! `SuitSymmetry` a board counts as known if it is the same as a known one up to the suits of a colour. `Both` is
 //! the two together.
-//! Above: a restricted search tries the move of `narrow` alone, and knows boards by their colour keys where `coarse`.
+//! Above: a restricted search tries the move of `narrow` alone, and knows boards by their colour keys if `coarse`.
 //! Refuses: nothing. No call takes memory.
 //! Not promised: that a board which wins still wins under a restriction. Only a win that is found counts.
 #![tactic(auto)]
@@ -53,7 +53,7 @@ fn first_carry_home(moves: &[Move]) -> Option<Move>
         .find(|candidate| is_carry_home(*candidate))
 }
 
-/// The first carry to a foundation among the moves, where the way takes it alone. `None` exactly where the way does
+/// The first carry to a foundation among the moves, if the way takes it alone. `None` exactly if the way does
 /// not, or no move is such a carry.
 pub fn narrow(way: Streamliner, moves: &[Move]) -> Option<Move>
     ensures { result ≡ narrow way moves.now }
