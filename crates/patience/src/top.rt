@@ -15,8 +15,13 @@ use std::alloc::Global;
 
 /// Does the job that the words name, with the files of the shelf, and writes its text to the sink.
 ///
+/// For every accepted rules file, deal, cache size and node budget, it prints `winnable` with a line of legal moves from the
+/// deal to a won board under the unreduced rules, `unwinnable` only if no such line of any length exists, and `undecided`
+/// only after the stated number of nodes, each an expansion along a different line that repeats no board. The clauses
+/// `whole` and `exact` say so, with `IsSolved` and `IsVerdict`.
+///
 /// The words are those after the program's name. The text, the job's own or that of a refusal, is built whole and then
-/// put line by line. Where a put fails none follows, the status is `SinkFailed`, and a prefix of the text was written.
+/// put line by line. If a put fails none follows, the status is `SinkFailed`, and a prefix of the text was written.
 /// `Memory` comes before the first put alone, and then nothing was written. The words are looked at first, then the rules,
 /// the deal or the seed, and the line, each fetched and read before the next, and the first fault is the answer.
 pub fn patience<S: Shelf, K: Sink>(
