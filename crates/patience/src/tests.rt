@@ -224,7 +224,7 @@ a seed is solved
 solve rules --seed 42
 Done
 winnable
-nodes 8
+nodes 4
 narrow 0
 moves 8
 deal
