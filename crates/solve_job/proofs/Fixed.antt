@@ -21,7 +21,7 @@ use Rattle.search_space.proofs.Alike.{plain_game-is_alike}
 use Rattle.same_boards.specs.Same.{Same}
 use Rattle.solve_job.specs.declared.limits.Limits.{Limits}
 use Rattle.solve_job.proofs.Lines.{trail_end}
-use Rattle.solve_job.specs.Verdicts.{IsVerdict, IsPassed, nodes_of}
+use Rattle.solve_job.specs.Verdicts.{IsVerdict, IsPassed, nodes_of, narrow_nodes_of}
 
 -- where the start is not winnable, no line wins
 pub no_line_wins : (rules : RuleParts) (start : Board) (moves : List Move) (last : Board) → ¬ Winnable rules start
@@ -49,12 +49,6 @@ Ends rules start limit walk (verdict.Undecided nodes narrow_nodes) =
     (length walk ≡ limit) × (z : List Step) × Follows (plain_game rules) start walk z × IsOpen (plain_game rules) start walk z
     × (¬ Won rules (end (plain_game rules) start z))
 
--- the nodes of a narrow search
-abbrev narrow_of : Verdict → ℕ
-narrow_of (verdict.Winnable line nodes narrow_nodes) = narrow_nodes
-narrow_of (verdict.Unwinnable nodes narrow_nodes) = narrow_nodes
-narrow_of (verdict.Undecided nodes narrow_nodes) = narrow_nodes
-
 -- what a verdict rests on
 record Rests (rules : RuleParts) (start : Board) (cache limit : ℕ) (v : Verdict) : Type 0 where
   walk : List (List Step)
@@ -63,10 +57,10 @@ record Rests (rules : RuleParts) (start : Board) (cache limit : ℕ) (v : Verdic
   count : length walk ≡ nodes_of v
   within : length walk ≤ limit
   ends : Ends rules start limit walk v
-  no_narrow : narrow_of v ≡ 0
+  no_narrow : narrow_nodes_of v ≡ 0
 
 -- without a restricted search no node of one is told
-passed_none : (rules : RuleParts) (start : Board) (limits : Limits) (nodes : ℕ) → IsPassed rules start limits nodes → limits.narrow ≡ 0 → nodes ≡ 0
+pub passed_none : (rules : RuleParts) (start : Board) (limits : Limits) (nodes : ℕ) → IsPassed rules start limits nodes → limits.narrow ≡ 0 → nodes ≡ 0
 passed_none rules start limits nodes (inl none) no_narrow = none.1
 passed_none rules start limits nodes (inr some) no_narrow = absurd (some.0 no_narrow)
 
@@ -139,7 +133,7 @@ module _ (rules : RuleParts) (start : Board) (limit : ℕ) (walk : List (List St
       let same : line ≡ z = at_most_one (plain_game rules) start walk is_walk (plain_steps rules start) line z follows follows' (inl won) opens in
       not_won (subst (λ l. Won rules (end (plain_game rules) start l)) same won)
 
-  one_ending : (v w : Verdict) → Ends rules start limit walk v → Ends rules start limit walk w → nodes_of v ≡ nodes_of w → narrow_of v ≡ narrow_of w → v ≡ w
+  one_ending : (v w : Verdict) → Ends rules start limit walk v → Ends rules start limit walk w → nodes_of v ≡ nodes_of w → narrow_nodes_of v ≡ narrow_nodes_of w → v ≡ w
   one_ending (verdict.Winnable line nodes narrow_nodes) (verdict.Winnable line' nodes' narrow_nodes') e f same narrow =
       let trails : e.0 ≡ f.0 = at_most_one (plain_game rules) start walk is_walk (plain_steps rules start) e.0 f.0 e.2 f.2 (inl e.3) (inl f.3) in
       let one : line ≡ line' = e.1 ∙ (ap (expand_trail rules start) trails ∙ sym f.1) in

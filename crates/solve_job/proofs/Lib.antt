@@ -2,3 +2,4 @@ pub mod Lines
 pub mod Answering
 pub mod Fixed
 pub mod Narrowing
+pub mod NarrowFixed

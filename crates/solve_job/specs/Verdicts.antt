@@ -97,6 +97,12 @@ nodes_of (verdict.Winnable line nodes narrow_nodes) = nodes
 nodes_of (verdict.Unwinnable nodes narrow_nodes) = nodes
 nodes_of (verdict.Undecided nodes narrow_nodes) = nodes
 
+-- the nodes of the restricted search
+abbrev pub narrow_nodes_of : Verdict → ℕ
+narrow_nodes_of (verdict.Winnable line nodes narrow_nodes) = narrow_nodes
+narrow_nodes_of (verdict.Unwinnable nodes narrow_nodes) = narrow_nodes
+narrow_nodes_of (verdict.Undecided nodes narrow_nodes) = narrow_nodes
+
 -- the verdict is winnable or unwinnable
 abbrev pub IsDecided : Verdict → Type 0
 IsDecided (verdict.Winnable line nodes narrow_nodes) = ⊤

@@ -8,7 +8,7 @@ ghost use Rattle.game_rules.specs.Winning.{Won, Line};
 ghost use Rattle.line_printer.specs.declared.verdict.Verdict.{Verdict};
 ghost use Rattle.line_printer.specs.declared.verdict.Verdict.TheVariants as verdict;
 ghost use Rattle.solve_job.specs.declared.limits.Limits.{Limits};
-ghost use Rattle.solve_job.specs.Verdicts.{IsVerdict, nodes_of};
+ghost use Rattle.solve_job.specs.Verdicts.{IsVerdict, nodes_of, narrow_nodes_of};
 
 /// Winnable: each move of the line is legal where it is made, and the last board is won.
 pub fn winnable_means_that_the_line_wins()
@@ -39,4 +39,14 @@ pub fn verdicts_within_the_cache_are_fixed()
         → IsVerdict rules start limits one → IsVerdict rules start limits' other
         → nodes_of one ≤ limits.cache → nodes_of other ≤ limits'.cache
         → one ≡ other }
+{}
+
+/// Where the restricted search spent no more nodes than the cache has room for, the rules, the start, how many nodes it may
+/// spend and how it is restricted fix how many it spent: each cache that is large enough leads to the same count.
+pub fn narrow_nodes_within_the_cache_are_fixed()
+    ensures { (rules : RuleParts) (start : Board) (limits limits' : Limits) (one other : Verdict)
+        → limits.narrow ≡ limits'.narrow → limits.way ≡ limits'.way
+        → IsVerdict rules start limits one → IsVerdict rules start limits' other
+        → narrow_nodes_of one ≤ limits.cache → narrow_nodes_of other ≤ limits'.cache
+        → narrow_nodes_of one ≡ narrow_nodes_of other }
 {}

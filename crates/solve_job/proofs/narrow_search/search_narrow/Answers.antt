@@ -20,8 +20,8 @@ line_of-requires-clause-made c =
     subst (CanAllBeMade rules start) (sym c.items.ensures)
     (narrow_made rules limits.way start c.parts.ensures.playable c.requires.belongs limits.cache limits.narrow c.in-Ok.searched.nodes c.in-Won.trail answer)
 
-pub returns-in-Won : goal.returns-in-Won
-returns-in-Won c =
+pub returns-in_ok-line-in-Won : goal.returns-in_ok-line-in-Won
+returns-in_ok-line-in-Won c =
     let rules : RuleParts = c.args.rules.now in
     let start : Board = c.args.start.now in
     let limits : Limits = c.args.limits.now in
@@ -29,9 +29,9 @@ returns-in-Won c =
     (found.Won c.in-Won.trail) _ c.new-space.ensures.rules c.new-space.ensures.way c.new-space.ensures.stands c.in-Won.is c.in-Ok.ensures.answer in
     let win = narrow_win rules limits.way start c.parts.ensures.playable c.requires.belongs limits.cache limits.narrow c.in-Ok.searched.nodes
     c.in-Ok.ensures.within c.in-Won.trail answer in (
-      restricted_here c,
+      c.if-limits-eq0.false,
       subst (λ line. FindsWin (narrow_game rules limits.way) rules start limits.cache limits.narrow line c.in-Ok.searched.nodes)
-          (sym (c.in_ok-line.ensures ∙ ap (expand_trail rules start) c.items.ensures)) win,
+          (sym (c.in_ok-line-in-Won.ensures ∙ ap (expand_trail rules start) c.items.ensures)) win,
     )
 
 pub returns-in-Exhausted : goal.returns-in-Exhausted
@@ -42,7 +42,7 @@ returns-in-Exhausted c =
     let answer = narrow_answer_of rules _ limits.way _ start _ limits.cache limits.narrow c.in-Ok.searched.nodes
     found.Exhausted _ c.new-space.ensures.rules c.new-space.ensures.way c.new-space.ensures.stands c.in-Exhausted.is c.in-Ok.ensures.answer in
     inr (
-      restricted_here c,
+      c.if-limits-eq0.false,
       narrow_closed rules limits.way start c.parts.ensures.playable c.requires.belongs limits.cache limits.narrow
           c.in-Ok.searched.nodes c.in-Ok.ensures.within answer,
     )
@@ -55,7 +55,7 @@ returns-in-SpentAll c =
     let answer = narrow_answer_of rules _ limits.way _ start _ limits.cache limits.narrow c.in-Ok.searched.nodes
     found.SpentAll _ c.new-space.ensures.rules c.new-space.ensures.way c.new-space.ensures.stands c.in-SpentAll.is c.in-Ok.ensures.answer in
     inr (
-      restricted_here c,
+      c.if-limits-eq0.false,
       narrow_spent rules limits.way start c.parts.ensures.playable c.requires.belongs limits.cache limits.narrow
           c.in-Ok.searched.nodes c.in-Ok.ensures.within answer,
     )
