@@ -60,6 +60,10 @@ fits_or_not rules other fault same refused fits = absurd (let both : Some fault 
 seed_or_not : {C : Type 0} (a b : Job) (seed : ℕ) → seed_of a ≡ Some seed → seed_of b ≡ None → a ≡ b → C
 seed_or_not a b seed given none same = absurd (let both : Some seed ≡ None = sym given ∙ ap seed_of same ∙ none in cc)
 
+-- a job with a deal is not one without
+pub takes_or_not : {C : Type 0} (a b : Job) → IsTrue (takes_deal a) → takes_deal b ≡ false → a ≡ b → C
+takes_or_not a b takes not same = absurd (let both : true ≡ false = sym takes ∙ ap takes_deal same ∙ not in cc)
+
 -- the rules of a start
 pub started : (files : Option (List File)) (words : List (List ℕ)) (j : Job) (rules : RuleParts) (board : Board) → HasStart files words j rules board → HasRules files words j rules
 started files words j rules board (inl x) = x.has_rules
@@ -89,10 +93,6 @@ module _ (shelf : Shelved) (words : List (List ℕ)) where
       let same : bytes ≡ has.bytes = one_file shelf.files (rules_name words) bytes has.bytes gives.tells has.told in
       let read : rules_of bytes ≡ Ok rules = ap rules_of same ∙ has.accepted in
       no_both (rules_of bytes) rules fault read refused
-
-  -- a job with a deal is not one without
-  pub takes_or_not : {C : Type 0} (a b : Job) → IsTrue (takes_deal a) → takes_deal b ≡ false → a ≡ b → C
-  takes_or_not a b takes not same = absurd (let both : true ≡ false = sym takes ∙ ap takes_deal same ∙ not in cc)
 
   -- a deal that the shelf gives was not refused
   pub deal_stands : {C : Type 0} (a : Job) (rules : RuleParts) (board : Board) (text : List ℕ) → GivesDeal shelf words a rules board

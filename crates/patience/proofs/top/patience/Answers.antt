@@ -1,3 +1,5 @@
+use Rattle.std.proofs.Common.{ℕ, List, subst}
+use Rattle.std.specs.Io.KnownBytes.{Appends}
 use Rattle.solver_words.specs.Texts.{texts}
 use Rattle.patience.proofs.Due.{is_due}
 use Rattle.patience.proofs.Complete.{is_complete}
@@ -12,4 +14,6 @@ pub returns-in-Ok-put_lines-clause-complete : goal.returns-in-Ok-put_lines-claus
 returns-in-Ok-put_lines-clause-complete g c = λ calm.
     is_complete (record { files = g.S.Shelf.files c.args.shelf.now; before = g.S.Shelf.faults c.args.shelf.now; after = g.S.Shelf.faults c.make_report.new.shelf })
     (texts c.args.words.now) (g.K.Sink.written c.args.sink.now) (g.K.Sink.written c.put_lines.new.sink) c.in-Ok.report.status c.in-Ok.report.text.items
-    c.in-Ok.ensures.explained c.in-Ok-put_lines.ensures.whole
+    c.in-Ok.ensures.explained
+    (subst (λ (t : List ℕ). Appends (g.K.Sink.written c.args.sink.now) (g.K.Sink.written c.put_lines.new.sink) t) c.deref.ensures.value
+    c.in-Ok-put_lines.ensures.whole)
