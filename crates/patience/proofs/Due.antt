@@ -31,21 +31,21 @@ use Rattle.patience.specs.Answers.{Gives, GivesRules, GivesDeal, IsDue}
 use Rattle.patience.proofs.Replay.{wins-not_short, wins-not_illegal}
 
 -- a file has one list of bytes
-one_file : (files : Option (List File)) (name bytes other : List ℕ) → Tells files name bytes → HasBytes files name other → bytes ≡ other
+pub one_file : (files : Option (List File)) (name bytes other : List ℕ) → Tells files name bytes → HasBytes files name other → bytes ≡ other
 one_file None name bytes other told has = absurd told
 one_file (Some files) name bytes other told has =
     let both : Some bytes ≡ Some other = sym told ∙ has in
     cc
 
 -- a result is not two things
-one_ok : {A E : Type 0} (r : Result A E) (a b : A) → r ≡ Ok a → r ≡ Ok b → a ≡ b
+pub one_ok : {A E : Type 0} (r : Result A E) (a b : A) → r ≡ Ok a → r ≡ Ok b → a ≡ b
 one_ok r a b first second = cc
 
-no_both : {A E C : Type 0} (r : Result A E) (a : A) (e : E) → r ≡ Ok a → r ≡ Err e → C
+pub no_both : {A E C : Type 0} (r : Result A E) (a : A) (e : E) → r ≡ Ok a → r ≡ Err e → C
 no_both r a e first second = absurd (let both : Ok a ≡ Err e = sym first ∙ second in cc)
 
 -- a job with a seed has no deal file
-no_file : (j : Job) (seed : ℕ) → seed_of j ≡ Some seed → takes_deal j ≡ false
+pub no_file : (j : Job) (seed : ℕ) → seed_of j ≡ Some seed → takes_deal j ≡ false
 no_file (job.Solve source.File cache nodes narrow way memo) seed h = cc
 no_file (job.Solve (source.FromSeed other) cache nodes narrow way memo) seed h = refl
 no_file job.Replay seed h = cc
@@ -60,14 +60,18 @@ fits_or_not rules other fault same refused fits = absurd (let both : Some fault 
 seed_or_not : {C : Type 0} (a b : Job) (seed : ℕ) → seed_of a ≡ Some seed → seed_of b ≡ None → a ≡ b → C
 seed_or_not a b seed given none same = absurd (let both : Some seed ≡ None = sym given ∙ ap seed_of same ∙ none in cc)
 
+-- a job with a deal is not one without
+pub takes_or_not : {C : Type 0} (a b : Job) → IsTrue (takes_deal a) → takes_deal b ≡ false → a ≡ b → C
+takes_or_not a b takes not same = absurd (let both : true ≡ false = sym takes ∙ ap takes_deal same ∙ not in cc)
+
 -- the rules of a start
-started : (files : Option (List File)) (words : List (List ℕ)) (j : Job) (rules : RuleParts) (board : Board) → HasStart files words j rules board → HasRules files words j rules
+pub started : (files : Option (List File)) (words : List (List ℕ)) (j : Job) (rules : RuleParts) (board : Board) → HasStart files words j rules board → HasRules files words j rules
 started files words j rules board (inl x) = x.has_rules
 started files words j rules board (inr x) = x.has_rules
 
 module _ (shelf : Shelved) (words : List (List ℕ)) where
   -- the rules that the shelf gives are those that were read
-  same_rules : (a b : Job) (rules other : RuleParts) → GivesRules shelf words a rules → HasRules shelf.files words b other
+  pub same_rules : (a b : Job) (rules other : RuleParts) → GivesRules shelf words a rules → HasRules shelf.files words b other
       → (a ≡ b) × (rules ≡ other)
   same_rules a b rules other gives has =
       let job : a ≡ b = one_ok (job_of words) a b gives.named has.named in
@@ -76,7 +80,7 @@ module _ (shelf : Shelved) (words : List (List ℕ)) where
       (job, one_ok (rules_of gives.bytes) rules other gives.accepted read)
 
   -- rules that the shelf gives were not refused
-  rules_stand : {C : Type 0} (a : Job) (rules : RuleParts) (text : List ℕ) → GivesRules shelf words a rules → IsRulesRefusal shelf.files words text → C
+  pub rules_stand : {C : Type 0} (a : Job) (rules : RuleParts) (text : List ℕ) → GivesRules shelf words a rules → IsRulesRefusal shelf.files words text → C
   rules_stand a rules text gives refusal =
       let bytes : gives.bytes ≡ refusal.bytes = one_file shelf.files (rules_name words) gives.bytes refusal.bytes gives.given.tells refusal.told in
       let read : rules_of gives.bytes ≡ Err refusal.fault = ap rules_of bytes ∙ refusal.refused in
@@ -90,12 +94,8 @@ module _ (shelf : Shelved) (words : List (List ℕ)) where
       let read : rules_of bytes ≡ Ok rules = ap rules_of same ∙ has.accepted in
       no_both (rules_of bytes) rules fault read refused
 
-  -- a job with a deal is not one without
-  takes_or_not : {C : Type 0} (a b : Job) → IsTrue (takes_deal a) → takes_deal b ≡ false → a ≡ b → C
-  takes_or_not a b takes not same = absurd (let both : true ≡ false = sym takes ∙ ap takes_deal same ∙ not in cc)
-
   -- a deal that the shelf gives was not refused
-  deal_stands : {C : Type 0} (a : Job) (rules : RuleParts) (board : Board) (text : List ℕ) → GivesDeal shelf words a rules board
+  pub deal_stands : {C : Type 0} (a : Job) (rules : RuleParts) (board : Board) (text : List ℕ) → GivesDeal shelf words a rules board
       → IsDealRefusal shelf.files words text → C
   deal_stands a rules board text gives refusal =
       let same = same_rules a refusal.job rules refusal.rules gives.has_rules refusal.has_rules in
@@ -121,7 +121,7 @@ module _ (shelf : Shelved) (words : List (List ℕ)) where
       takes_or_not a b takes (no_file b has.seed has.given) (same_rules a b rules other by has.has_rules).0
 
   -- the deal that the shelf gives is the one that was read
-  same_deal : (a b : Job) (rules other : RuleParts) (board start : Board) → GivesDeal shelf words a rules board → HasDeal shelf.files words b other start
+  pub same_deal : (a b : Job) (rules other : RuleParts) (board start : Board) → GivesDeal shelf words a rules board → HasDeal shelf.files words b other start
       → (a ≡ b) × (rules ≡ other) × (board ≡ start)
   same_deal a b rules other board start gives has =
       let same = same_rules a b rules other gives.has_rules has.has_rules in
@@ -137,14 +137,14 @@ module _ (shelf : Shelved) (words : List (List ℕ)) where
       no_both (line_of bytes) moves fault (ap line_of one ∙ has.accepted) refused
 
   -- a line that the shelf gives was not refused
-  line_stands : {C : Type 0} (bytes : List ℕ) (moves : List Move) (text : List ℕ) → Gives shelf (line_name words) bytes → line_of bytes ≡ Ok moves
+  pub line_stands : {C : Type 0} (bytes : List ℕ) (moves : List Move) (text : List ℕ) → Gives shelf (line_name words) bytes → line_of bytes ≡ Ok moves
       → IsBadLine shelf.files words text → C
   line_stands bytes moves text gives accepted bad =
       let one : bytes ≡ bad.bytes = one_file shelf.files (line_name words) bytes bad.bytes gives.tells bad.told in
       no_both (line_of bytes) moves bad.fault accepted (ap line_of one ∙ bad.refused)
 
   -- how the line that was read goes is how the line that the shelf gives goes
-  same_replay : (rules other : RuleParts) (board start : Board) (bytes : List ℕ) (moves read : List Move) (r : Replayed)
+  pub same_replay : (rules other : RuleParts) (board start : Board) (bytes : List ℕ) (moves read : List Move) (r : Replayed)
       → GivesDeal shelf words job.Replay rules board → Gives shelf (line_name words) bytes → line_of bytes ≡ Ok moves
       → HasLine shelf.files words other start read → IsReplayed other start read r → IsReplayed rules board moves r
   same_replay rules other board start bytes moves read r gives given accepted has goes =
@@ -155,7 +155,7 @@ module _ (shelf : Shelved) (words : List (List ℕ)) where
       (subst (λ b. IsReplayed rules b read r) (sym same.2) (subst (λ k. IsReplayed k start read r) (sym same.1) goes))
 
   -- what holds of a status where it holds for each cause
-  by_cause : (P : Status → Type 0) (text : List ℕ)
+  pub by_cause : (P : Status → Type 0) (text : List ℕ)
       → (IsUsage words text → P Usage)
       → (IsRulesFailure shelf words text → P ShelfFailed)
       → (IsRulesRefusal shelf.files words text → P RulesRefused)
@@ -298,13 +298,13 @@ module _ (shelf : Shelved) (words : List (List ℕ)) where
       (λ x. refl)
 
   -- a job that solves has no line
-  no_replay : {C : Type 0} (asked : Asked) (rules other : RuleParts) (board start : Board) → GivesDeal shelf words (job_asked asked) rules board
+  pub no_replay : {C : Type 0} (asked : Asked) (rules other : RuleParts) (board start : Board) → GivesDeal shelf words (job_asked asked) rules board
       → HasDeal shelf.files words job.Replay other start → C
   no_replay asked rules other board start gives has = absurd (let same : job_asked asked ≡ job.Replay =
       (same_rules (job_asked asked) job.Replay rules other gives.has_rules has.has_rules).0 in cc)
 
   -- the deal is solved
-  solved_is : (text : List ℕ) (asked : Asked) (rules : RuleParts) (board : Board) → GivesDeal shelf words (job_asked asked) rules board
+  pub solved_is : (text : List ℕ) (asked : Asked) (rules : RuleParts) (board : Board) → GivesDeal shelf words (job_asked asked) rules board
       → (status : Status) → Explains shelf words status text → status ≡ Done
   solved_is text asked rules board gives =
       by_cause (λ s. s ≡ Done) text
@@ -325,7 +325,7 @@ module _ (shelf : Shelved) (words : List (List ℕ)) where
       (λ x. refl)
 
   -- a job with a seed has no deal file, and so no line either
-  no_deal_file : {C : Type 0} (j b : Job) (seed : ℕ) (rules other : RuleParts) → GivesRules shelf words j rules → seed_of j ≡ Some seed
+  pub no_deal_file : {C : Type 0} (j b : Job) (seed : ℕ) (rules other : RuleParts) → GivesRules shelf words j rules → seed_of j ≡ Some seed
       → HasRules shelf.files words b other → IsTrue (takes_deal b) → C
   no_deal_file j b seed rules other by given has takes = takes_or_not b j takes (no_file j seed given) (sym (same_rules j b rules other by has).0)
 
@@ -355,7 +355,7 @@ module _ (shelf : Shelved) (words : List (List ℕ)) where
       (λ x. seed_or_not j job.Rules seed given refl (same_rules j job.Rules rules x.rules by x.has_rules).0)
 
   -- the seed deals a board
-  dealt_is : (text : List ℕ) (j : Job) (rules : RuleParts) (seed : ℕ) → GivesRules shelf words j rules
+  pub dealt_is : (text : List ℕ) (j : Job) (rules : RuleParts) (seed : ℕ) → GivesRules shelf words j rules
       → seed_of j ≡ Some seed → seed_fault rules ≡ None → (status : Status) → Explains shelf words status text → status ≡ Done
   dealt_is text j rules seed by given fits = by_cause (λ s. s ≡ Done) text
       (λ x. no_both (job_of words) j x.fault by.named x.names_no_job)
@@ -374,7 +374,7 @@ module _ (shelf : Shelved) (words : List (List ℕ)) where
       (λ x. refl)
 
   -- the rules are spelled
-  spelled_is : (text : List ℕ) (rules : RuleParts) → GivesRules shelf words job.Rules rules
+  pub spelled_is : (text : List ℕ) (rules : RuleParts) → GivesRules shelf words job.Rules rules
       → (status : Status) → Explains shelf words status text → status ≡ Done
   spelled_is text rules by =
       by_cause (λ s. s ≡ Done) text

@@ -1,6 +1,6 @@
 //! Bytes that are no file of rules and no deal: each gets one line that says why, and nothing else is written.
 use crate::status::Status;
-use crate::tests::{DEAL, RULES, print, shelf_of};
+use crate::tests::{DEAL, RULES, filled, print, shelf_of};
 use std::alloc::Global;
 use std::test::Fail;
 
@@ -27,29 +27,9 @@ fn both_refuse(alloc: Global, bytes: &[u8], fault: &str) -> Result<bool, Fail> {
     Ok(first && second)
 }
 
-/// So many bytes of one kind.
-fn filled(alloc: Global, byte: u8, count: usize) -> Result<Vec<u8>, Fail> {
-    let mut bytes = Vec::new(alloc);
-    for _ in 0..count {
-        bytes.push(byte)?;
-    }
-    Ok(bytes)
-}
-
 #[test]
-fn each_proper_prefix_of_a_file_is_no_json(rt: HostRuntime) -> Result<(), Fail> {
+fn each_proper_prefix_of_a_deal_is_no_json(rt: HostRuntime) -> Result<(), Fail> {
     let (rules, deal) = (RULES.as_bytes(), DEAL.as_bytes());
-    for length in 0..rules.len() {
-        let text = "refused rules not-json\n";
-        let cut = refuses(
-            rt.alloc(),
-            &rules[..length],
-            deal,
-            Status::RulesRefused,
-            text,
-        )?;
-        assert!(rt; cut, "at {length}");
-    }
     for length in 0..deal.len() {
         let text = "refused deal not-json\n";
         let cut = refuses(

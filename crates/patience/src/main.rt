@@ -8,6 +8,8 @@
 #![tactic(auto)]
 
 mod asked;
+#[cfg(test)]
+mod failing_tests;
 mod files;
 #[cfg(test)]
 mod hostile_tests;

@@ -11,7 +11,7 @@ pub const RULES: &str =
 
 pub const DEAL: &str = r#"{"tableau":[["AC","2C"],["AD","2D"],["AH","2H"],["2S"]],"hole":["AS"]}"#;
 
-const WON: &str =
+pub const WON: &str =
     "winnable\nnodes 7\nnarrow 0\nmoves 7\nt0 h\nt0 h\nt1 h\nt1 h\nt2 h\nt2 h\nt3 h\n";
 
 /// For each run a name, the rules file, the deal file, the words, the status, and the text that is written.
@@ -274,6 +274,15 @@ pub fn shelf_of(alloc: Global, rules: &[u8], deal: &[u8]) -> Result<MemoryShelf,
     Ok(shelf)
 }
 
+/// So many bytes of one kind.
+pub fn filled(alloc: Global, byte: u8, count: usize) -> Result<Vec<u8>, Fail> {
+    let mut bytes = Vec::new(alloc);
+    for _ in 0..count {
+        bytes.push(byte)?;
+    }
+    Ok(bytes)
+}
+
 /// What the program makes of the words. More than a hundred words are not tried.
 pub fn run(
     alloc: Global,
@@ -329,52 +338,6 @@ fn a_line_file_is_replayed_or_refused(rt: HostRuntime) -> Result<(), Fail> {
         shelf.add("line", line.as_bytes())?;
         let printed = print(alloc, &mut shelf, "replay rules deal line")?;
         assert!(rt; printed.text.as_slice() == want.as_bytes(), "{want}");
-    }
-    Ok(())
-}
-
-#[test]
-fn a_fetch_that_fails_is_told_by_its_file(rt: HostRuntime) -> Result<(), Fail> {
-    let alloc = rt.alloc();
-    for (call, want) in ["failed rules\n", "failed deal\n", "failed line\n"]
-        .iter()
-        .enumerate()
-    {
-        let mut shelf = shelf_of(alloc, RULES.as_bytes(), DEAL.as_bytes())?;
-        shelf.add("line", WON.as_bytes())?;
-        shelf.fail_at(call as u64)?;
-        let printed = print(alloc, &mut shelf, "replay rules deal line")?;
-        assert_eq!(rt; printed.status, Status::ShelfFailed, "at call {call}");
-        assert!(rt;
-            printed.text.as_slice() == want.as_bytes(),
-            "at call {call}"
-        );
-    }
-    Ok(())
-}
-
-/// Whether a put that fails leaves the lines before it and so many bytes of its own.
-fn leaves_a_prefix(alloc: Global, call: usize, kept: u8, before: usize) -> Result<bool, Fail> {
-    let mut shelf = shelf_of(alloc, RULES.as_bytes(), DEAL.as_bytes())?;
-    let mut sink = MemorySink::new(alloc, 1000)?;
-    sink.fail_at(call as u64, u64::from(kept))?;
-    let status = run(alloc, &mut shelf, &mut sink, "solve rules deal")?;
-    Ok(
-        status == Status::SinkFailed
-            && WON.as_bytes().starts_with(sink.bytes())
-            && sink.bytes().len() == before.saturating_add(usize::from(kept)),
-    )
-}
-
-#[test]
-fn a_put_that_fails_leaves_a_prefix(rt: HostRuntime) -> Result<(), Fail> {
-    for kept in [0, 1] {
-        let mut before: usize = 0;
-        for (call, line) in WON.split_inclusive('\n').enumerate() {
-            let leaves = leaves_a_prefix(rt.alloc(), call, kept, before)?;
-            assert!(rt; leaves, "at call {call} with {kept}");
-            before = before.saturating_add(line.len());
-        }
     }
     Ok(())
 }

@@ -5,6 +5,7 @@ ghost use Rattle.outside_io.specs.Faults.{Rose};
 ghost use Rattle.outside_io.specs.Sink.{AppendsPrefix};
 ghost use Rattle.solver_words.specs.Texts.{texts};
 ghost use Rattle.patience.specs.Causes.{Explains};
+ghost use Rattle.patience.specs.Complete.{IsComplete};
 ghost use Rattle.patience.specs.Answers.{IsDue, WritesWhole, WritesPart};
 
 use crate::jobs::make_report;
@@ -40,6 +41,11 @@ pub fn patience<S: Shelf, K: Sink>(
     // Each answer to words and bytes is given exactly where it is due, unless the sink or memory failed.
     ensures exact { IsDue
         (record { files = S.files shelf.old; before = S.faults shelf.old; after = S.faults shelf.new }) (texts words.now) result }
+
+    // If the files and the seed are accepted and no fault rose, the job is done or there is no memory.
+    ensures complete { ¬ Rose (K.faults sink.old) (K.faults sink.new) → IsComplete
+        (record { files = S.files shelf.old; before = S.faults shelf.old; after = S.faults shelf.new }) (texts words.now)
+        (K.written sink.old) (K.written sink.new) result }
 
     // Where the sink failed, a prefix of such a text was written.
     ensures sink_failed { result ≡ Status.SinkFailed → Rose (K.faults sink.old) (K.faults sink.new) }
