@@ -77,7 +77,7 @@ ROWS = [
     "solve games/klondike.json --seed 5 --cache 20 --nodes 300",
     "solve games/gaps.json --seed 1 --cache 3 --nodes 200",
     "solve games/spider.json --seed 3 --cache 5 --nodes 60",
-    "solve games/little-cell.json deals/little-cell-lost.json --cache 30",
+    "solve games/little-cell.json deals/little-cell-lost.json --cache 30 --nodes 300",
     "deal games/klondike.json --seed 7",
     "deal games/gaps.json --seed 7",
     "rules games/spider.json",
