@@ -16,7 +16,7 @@ use Rattle.game_rules.specs.Winning.{row_at}
 use Rattle.game_rules.specs.Position.{AreCards, AreEntries, parts_of, row_count}
 use Rattle.game_rules.proofs.Limits.{both}
 use Rattle.game_rules.proofs.Copies.{copies-cons}
-use Rattle.game_rules.proofs.FewCards.{cards_of, home_cards, all_cards, copies-of_all, same_card-true}
+use Rattle.game_rules.proofs.FewCards.{cards_of, home_cards, all_cards, cards_to_piles, cards_to_cells, cards_to_reserve, cards_to_stock, cards_to_waste, cards_to_home, cards_to_hole, copies-of_all, same_card-true}
 
 due_then : (b : Bool) (n : ℕ) → 1 ≤ (if b then n else 0) → IsTrue b
 due_then true n h = refl
@@ -92,26 +92,19 @@ rows-ranked rules board (r ∷ rs) all =
 pub parts-have_ranks : (rules : RuleParts) (board : Board) → HasLimits rules → Belongs rules board → PartsHaveRanks (parts_of rules board)
 parts-have_ranks rules board limits b =
     let P : Card → Type 0 = λ (card : Card). IsRank card.rank in
-    let piles : List Card = flat_map (λ (pile : Pile). pile.cards) board.piles in
-    let cells : List Card = piles ++ cards_of board.cells in
-    let reserve : List Card = cells ++ cards_of board.reserve in
-    let stock : List Card = reserve ++ board.stock in
-    let waste : List Card = stock ++ board.waste in
-    let home : List Card = waste ++ home_cards rules board.heights in
-    let hole : List Card = home ++ board.hole in
-    let all : All P (hole ++ cards_of board.slots) = all-ranked rules board limits b in
-    let in_hole : All P hole = front P hole (cards_of board.slots) all in
-    let in_home : All P home = front P home board.hole in_hole in
-    let in_waste : All P waste = front P waste (home_cards rules board.heights) in_home in
-    let in_stock : All P stock = front P stock board.waste in_waste in
-    let in_reserve : All P reserve = front P reserve board.stock in_stock in
-    let in_cells : All P cells = front P cells (cards_of board.reserve) in_reserve in
+    let all : All P (cards_to_hole rules board ++ cards_of board.slots) = all-ranked rules board limits b in
+    let in_hole : All P (cards_to_hole rules board) = front P (cards_to_hole rules board) (cards_of board.slots) all in
+    let in_home : All P (cards_to_home rules board) = front P (cards_to_home rules board) board.hole in_hole in
+    let in_waste : All P (cards_to_waste board) = front P (cards_to_waste board) (home_cards rules board.heights) in_home in
+    let in_stock : All P (cards_to_stock board) = front P (cards_to_stock board) board.waste in_waste in
+    let in_reserve : All P (cards_to_reserve board) = front P (cards_to_reserve board) board.stock in_stock in
+    let in_cells : All P (cards_to_cells board) = front P (cards_to_cells board) (cards_of board.reserve) in_reserve in
     record {
-      tableau = piles-ranked board.piles (front P piles (cards_of board.cells) in_cells);
-      cells = entries-ranked board.cells (back P piles (cards_of board.cells) in_cells);
-      reserve = entries-ranked board.reserve (back P cells (cards_of board.reserve) in_reserve);
-      stock = back P reserve board.stock in_stock;
-      waste = back P stock board.waste in_waste;
-      hole = back P home board.hole in_hole;
-      rows = rows-ranked rules board (range_with_len 0 (row_count rules)) (entries-ranked board.slots (back P hole (cards_of board.slots) all));
+      tableau = piles-ranked board.piles (front P (cards_to_piles board) (cards_of board.cells) in_cells);
+      cells = entries-ranked board.cells (back P (cards_to_piles board) (cards_of board.cells) in_cells);
+      reserve = entries-ranked board.reserve (back P (cards_to_cells board) (cards_of board.reserve) in_reserve);
+      stock = back P (cards_to_reserve board) board.stock in_stock;
+      waste = back P (cards_to_stock board) board.waste in_waste;
+      hole = back P (cards_to_home rules board) board.hole in_hole;
+      rows = rows-ranked rules board (range_with_len 0 (row_count rules)) (entries-ranked board.slots (back P (cards_to_hole rules board) (cards_of board.slots) all));
     }

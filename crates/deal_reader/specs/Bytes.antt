@@ -6,6 +6,7 @@ use Rattle.game_rules.specs.declared.BoardParts.{BoardParts}
 abbrev pub narrow : ℕ → ℕ
 narrow number = min number 255
 
+-- the parts with each number above 255 as 255
 abbrev pub narrowed : BoardParts → BoardParts
 narrowed parts = record parts {
   face_down = map narrow parts.face_down;

@@ -82,6 +82,7 @@ abbrev pub default_face_down : Face → List (List Card) → List ℕ
 default_face_down AllUp tableau = []
 default_face_down TopUp tableau = map (λ cards. length cards - 1) tableau
 
+-- the numbers of face-down cards that the file names, or their default
 abbrev pub face_down_or_default : Face → List (List Card) → Option (List ℕ) → List ℕ
 face_down_or_default face tableau None = default_face_down face tableau
 face_down_or_default face tableau (Some numbers) = numbers
@@ -125,6 +126,7 @@ abbrev pub board_or_fault : Board → Option BoardFault → Result Board DealFau
 board_or_fault board None = Ok board
 board_or_fault board (Some fault) = Err (deal_fault fault)
 
+-- the position of a deal, or its first fault
 abbrev pub position_of_deal : RuleParts → DealParts → Result Board DealFault
 position_of_deal rules deal = board_or_fault (board_of_parts rules (parts_of_deal rules deal)) (fault_of_deal rules deal)
 
@@ -139,6 +141,7 @@ file_fault file.NotJson = NotJson
 file_fault file.NotObject = NotObject
 file_fault file.Memory = Memory
 
+-- the position that the object of a file gives, or its first fault
 abbrev pub position_of_file : RuleParts → Result Data FileFault → Result Board DealFault
 position_of_file rules (Ok top) = position_of_tree rules top
 position_of_file rules (Err fault) = Err (file_fault fault)

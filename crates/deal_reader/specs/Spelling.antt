@@ -14,13 +14,16 @@ use Rattle.game_rules.specs.Position.{parts_of}
 abbrev pub card_tree : Card → Data
 card_tree card = string (text_of_card card)
 
+-- an entry is its card, or null
 abbrev pub entry_tree : Option Card → Data
 entry_tree None = null
 entry_tree (Some card) = card_tree card
 
+-- a number with no sign
 abbrev pub number_tree : ℕ → Data
 number_tree n = number (unsigned n)
 
+-- a list of the trees of its elements
 abbrev pub list_tree : {A : Type 0} → (A → Data) → List A → Data
 list_tree tree xs = array (items_of (map tree xs))
 

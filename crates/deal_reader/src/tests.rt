@@ -1,99 +1,17 @@
 //! Deal files and their one spelling, or their first fault, under six games of two ranks.
 use crate::{DealFault, read_position, write_position};
-use card_piles::Build;
-use game_model::Rules;
-use game_rules::{Face, Goal, Groups, HoleStart, Layout, Redeals, RuleParts, Spaces, Target};
+use small_games::rules_of;
 use std::alloc::{AllocError, Global};
 
-fn plain() -> RuleParts {
-    RuleParts {
-        decks: 1,
-        max_rank: 2,
-        piles: 2,
-        layout: Layout::Even,
-        face: Face::AllUp,
-        build: Build::NoBuild,
-        wrap: false,
-        groups: Groups::One,
-        group_build: Build::NoBuild,
-        spaces: Spaces::Any,
-        goal: Goal::Foundations {
-            base: 1,
-            started: false,
-            take_back: false,
-            complete_runs: false,
-        },
-        cells: 1,
-        cells_filled: 0,
-        reserve: 2,
-        stacked: false,
-        stock: 3,
-        target: Target::ToWaste,
-        draw: 1,
-        redeals: Redeals::Times(2),
-    }
-}
-
-fn hole() -> RuleParts {
-    let mut parts = plain();
-    parts.piles = 4;
-    parts.cells = 0;
-    parts.reserve = 0;
-    parts.stock = 0;
-    parts.redeals = Redeals::Times(0);
-    parts.goal = Goal::Hole {
-        wrap: true,
-        start: HoleStart::Dealt,
-    };
-    parts
-}
-
-fn deep_hole() -> RuleParts {
-    let mut parts = hole();
-    parts.max_rank = 3;
-    parts.piles = 1;
-    parts
-}
-
-fn sequences() -> RuleParts {
-    let mut parts = hole();
-    parts.piles = 0;
-    parts.goal = Goal::Sequences;
-    parts
-}
+const PLAIN_GAME: &str = "ranks 2 piles 2 cells 1 reserve 2 stock 3 redeals 2";
 
 // Two decks of aces, face down but for the tops, a stacked reserve, and foundations that are begun.
-fn decks() -> RuleParts {
-    let mut parts = plain();
-    parts.decks = 2;
-    parts.max_rank = 1;
-    parts.face = Face::TopUp;
-    parts.stacked = true;
-    parts.redeals = Redeals::Unlimited;
-    parts
-}
-
-fn started() -> RuleParts {
-    let mut parts = plain();
-    parts.goal = Goal::Foundations {
-        base: 1,
-        started: true,
-        take_back: false,
-        complete_runs: false,
-    };
-    parts
-}
-
-fn dealing() -> RuleParts {
-    let mut parts = plain();
-    parts.target = Target::ToTableau;
-    parts.redeals = Redeals::Times(0);
-    parts
-}
+const TWO_DECKS: &str =
+    "decks 2 ranks 1 piles 2 cells 1 reserve 2 stock 3 unlimited top-up stacked";
 
 // The one spelling of the position, or its fault.
-fn answer(alloc: Global, parts: RuleParts, deal: &str) -> Result<String, AllocError> {
-    let Ok(rules) = Rules::new(parts) else {
+fn answer(alloc: Global, game: &str, deal: &str) -> Result<String, AllocError> {
+    let Ok(rules) = rules_of(game) else {
         return String::from_str(alloc, "no rules");
     };
     let board = match read_position(alloc, &rules, deal.as_bytes()) {
@@ -112,7 +30,7 @@ fn answer(alloc: Global, parts: RuleParts, deal: &str) -> Result<String, AllocEr
 // The first row of the table that is answered otherwise. A row is a deal, an arrow and its answer.
 fn first_other<'t>(
     alloc: Global,
-    parts: RuleParts,
+    game: &str,
     table: &'t str,
 ) -> Result<Option<&'t str>, AllocError> {
     for row in table.lines() {
@@ -120,7 +38,7 @@ fn first_other<'t>(
             return Ok(Some(row));
         };
         let due = if due == "empty" { EMPTY } else { due };
-        if answer(alloc, parts, deal)?.as_str() != due {
+        if answer(alloc, game, deal)?.as_str() != due {
             return Ok(Some(row));
         }
     }
@@ -237,16 +155,25 @@ const STARTED: &str =
 
 #[test]
 fn each_deal_has_its_answer(rt: HostRuntime) {
-    for (parts, table) in [
-        (plain(), PLAIN),
-        (dealing(), DEALING),
-        (hole(), HOLE),
-        (deep_hole(), DEEP_HOLE),
-        (sequences(), SEQUENCES),
-        (decks(), DECKS),
-        (started(), STARTED),
+    for (game, table) in [
+        (PLAIN_GAME, PLAIN),
+        (
+            "ranks 2 piles 2 cells 1 reserve 2 stock 3 to-tableau",
+            DEALING,
+        ),
+        ("ranks 2 piles 4 cells 0 reserve 0 stock 0 hole-wraps", HOLE),
+        (
+            "ranks 3 piles 1 cells 0 reserve 0 stock 0 hole-wraps",
+            DEEP_HOLE,
+        ),
+        ("ranks 2 rows", SEQUENCES),
+        (TWO_DECKS, DECKS),
+        (
+            "ranks 2 piles 2 cells 1 reserve 2 stock 3 redeals 2 started",
+            STARTED,
+        ),
     ] {
-        let other = first_other(rt.alloc(), parts, table)
+        let other = first_other(rt.alloc(), game, table)
             .ok()
             .expect(&rt, "memory");
         assert_eq!(rt; other, None, "is answered otherwise");
@@ -272,7 +199,7 @@ fn a_pile_higher_than_a_byte(rt: HostRuntime) {
         (r#","face down":[256]}"#, "place-full face-down"),
     ] {
         let deal = high_pile(rt.alloc(), rest).ok().expect(&rt, "memory");
-        let found = answer(rt.alloc(), decks(), deal.as_str())
+        let found = answer(rt.alloc(), TWO_DECKS, deal.as_str())
             .ok()
             .expect(&rt, "memory");
         assert_eq!(rt; found.as_str(), due, "at {rest}");
@@ -282,7 +209,7 @@ fn a_pile_higher_than_a_byte(rt: HostRuntime) {
 #[test]
 fn a_file_is_too_long(rt: HostRuntime) {
     let mut file = vec![in rt.alloc(); b' '; 65535].ok().expect(&rt, "memory");
-    let rules = Rules::new(plain()).ok().expect(&rt, "rules");
+    let rules = rules_of(PLAIN_GAME).ok().expect(&rt, "rules");
     assert!(rt; read_position(rt.alloc(), &rules, &file).err() == Some(DealFault::NotJson));
     file.extend_from_slice(b"{}").ok().expect(&rt, "memory");
     assert!(rt; read_position(rt.alloc(), &rules, &file).err() == Some(DealFault::TooLong));

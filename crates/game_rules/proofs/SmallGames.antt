@@ -23,65 +23,7 @@ use Rattle.game_rules.specs.Play.{after}
 use Rattle.game_rules.specs.Winning.{Wins, Winnable}
 use Rattle.game_rules.specs.Order.{legal_moves}
 use Rattle.game_rules.proofs.NoWin.{listed-no_win}
-
--- Words for small games.
-
-abbrev club : ℕ → Card
-club r = record { suit = Clubs; rank = r }
-
-abbrev diamond : ℕ → Card
-diamond r = record { suit = Diamonds; rank = r }
-
-abbrev heart : ℕ → Card
-heart r = record { suit = Hearts; rank = r }
-
-abbrev spade : ℕ → Card
-spade r = record { suit = Spades; rank = r }
-
--- so many ranks and piles, and foundations from the ace; nothing builds, and any card fills a space
-abbrev plain : ℕ → ℕ → RuleParts
-plain max_rank piles = record {
-  decks = 1;
-  max_rank = max_rank;
-  piles = piles;
-  layout = Even;
-  face = AllUp;
-  build = NoBuild;
-  wrap = false;
-  groups = One;
-  group_build = NoBuild;
-  spaces = Any;
-  goal = Foundations 1 false false false;
-  cells = 0;
-  cells_filled = 0;
-  reserve = 0;
-  stacked = false;
-  stock = 0;
-  target = ToWaste;
-  draw = 1;
-  redeals = Times 0;
-}
-
-abbrev board_of : List Pile → List ℕ → Board
-board_of piles heights = record {
-  piles = piles;
-  cells = [];
-  reserve = [];
-  stock = [];
-  waste = [];
-  redeals_left = 0;
-  heights = heights;
-  hole = [];
-  slots = [];
-}
-
--- a pile of cards that all lie face up
-abbrev up : List Card → Pile
-up cards = record { cards = cards; face_down = 0 }
-
--- one card goes from a place to another
-abbrev go : Place → Place → Move
-go from to = Carry from to 1
+use Rattle.game_rules.proofs.SmallWords.{club, diamond, heart, spade, plain, board_of, up, go}
 
 -- From the tableau to the foundations.
 

@@ -1,5 +1,5 @@
 -- What stock moves change, and what they keep.
-use Rattle.std.proofs.Common.{◌≡◌, ◌⊎◌, ◌↔◌, inl, inr, ℕ, ◌-◌, ◌<◌, ◌≤◌, zero, suc, Bool, true, false, not, List, [], ◌∷◌, ◌++◌, length, map, reverse, take, drop, refl, ap, sym, ◌∙◌, subst, arith, append_assoc, append-nil, IsTrue, Some, None, if◌then◌else◌, take-append-drop}
+use Rattle.std.proofs.Common.{◌≡◌, ◌⊎◌, ◌↔◌, inl, inr, ℕ, ◌-◌, ◌<◌, ◌≤◌, zero, suc, Bool, true, false, ◌||◌, not, List, [], ◌∷◌, ◌++◌, length, map, reverse, take, drop, refl, ap, sym, ◌∙◌, subst, arith, append_assoc, append-nil, IsTrue, nat_lt, Some, None, if◌then◌else◌, take-append-drop}
 use Rattle.std.proofs.lemmas.Bool.{cases_lt}
 use Rattle.std.proofs.lemmas.List.{reverse-append, reverse-reverse}
 use Rattle.card_piles.specs.declared.Card.{Card}
@@ -33,17 +33,19 @@ pub record Dealt (rules : RuleParts) (a b : Board) : Type 0 where
 
 pub record Redealt (rules : RuleParts) (a b : Board) : Type 0 where
   pub none : a.stock ≡ []
+  pub some : 0 < length a.waste
+  pub left : IsTrue (is_unlimited rules.redeals || nat_lt 0 a.redeals_left)
   pub is_after : b ≡ with_stock a (reverse a.waste) [] (if is_unlimited rules.redeals then a.redeals_left else a.redeals_left - 1)
 
-empty_is : {A : Type 0} (xs : List A) → IsTrue (is_empty xs) → xs ≡ []
+pub empty_is : {A : Type 0} (xs : List A) → IsTrue (is_empty xs) → xs ≡ []
 empty_is [] h = refl
 empty_is (x ∷ xs) h = cc
 
-some_is : {A : Type 0} (xs : List A) → IsTrue (not (is_empty xs)) → 0 < length xs
+pub some_is : {A : Type 0} (xs : List A) → IsTrue (not (is_empty xs)) → 0 < length xs
 some_is [] h = cc
 some_is (x ∷ xs) h = omega arith
 
-after_deal : (rules : RuleParts) (a : Board) → IsTrue (deals_to_waste rules.target)
+pub after_deal : (rules : RuleParts) (a : Board) → IsTrue (deals_to_waste rules.target)
     → after rules a Deal ≡ with_stock a (below_top rules.draw a.stock) (a.waste ++ reverse (top_part rules.draw a.stock)) a.redeals_left
 after_deal rules a to_waste = ap (λ (target : Target). after_deal_to target rules a) (target-waste rules.target to_waste)
 
@@ -63,7 +65,9 @@ next_by rules a b Deal to_waste stock legal is_after =
     let tests = both _ _ legal in
     inl (record { some = some_is a.stock tests.0; is_after = is_after ∙ after_deal rules a to_waste })
 next_by rules a b Redeal to_waste stock legal is_after =
-    inr (record { none = redeal-empty rules a legal; is_after = is_after })
+    let left = both _ _ legal in
+    let some = both _ _ left.0 in
+    inr (record { none = redeal-empty rules a legal; some = some_is a.waste some.1; left = left.1; is_after = is_after })
 
 pub next_cases : (rules : RuleParts) (a b : Board) → IsTrue (deals_to_waste rules.target) → IsNextByStock rules a b
     → Dealt rules a b ⊎ Redealt rules a b
@@ -112,7 +116,7 @@ one_stock_move rules a Redeal stock legal =
     let redeal : is_legal_redeal rules a ≡ true = legal in
     rw (redeal, empty)
 
-deal_legal : (rules : RuleParts) (a : Board) → IsTrue (deals_to_waste rules.target) → IsTrue (not (is_empty a.stock)) → Legal rules a Deal
+pub deal_legal : (rules : RuleParts) (a : Board) → IsTrue (deals_to_waste rules.target) → IsTrue (not (is_empty a.stock)) → Legal rules a Deal
 deal_legal rules a to_waste h = rw (h, target-waste rules.target to_waste)
 
 redeal_or_none : (rules : RuleParts) (a : Board) (b : Bool) → is_legal_redeal rules a ≡ b → ((if b then Some Redeal else None) ≡ None)

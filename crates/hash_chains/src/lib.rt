@@ -9,7 +9,7 @@
 
 ghost use Rattle.std.specs.Prelude.{◌≡◌, ◌≢◌, ℕ, ◌+◌, ◌-◌, ◌<◌, ◌≤◌, ◌^◌, List, [], ◌∷◌, ◌++◌, length, slice_index, slice_set, OnOk, OnErr, IfOk};
 ghost use Rattle.hash_chains.specs.Index.{indexed, LastBelow, LastWith};
-ghost use Rattle.hash_chains.specs.Chained.{IsIndex, IsIndexBut, IsBuilt, hash_of, hashes_of, bucket_of, bucket, head_of};
+ghost use Rattle.hash_chains.specs.Chained.{IsIndex, IsIndexBut, hash_of, hashes_of, bucket_of, bucket, head_of};
 
 pub mod links;
 

@@ -117,22 +117,12 @@ given-pile rules board i left card n bit here reached few ranked is = record {
 can_take-single : (rules : RuleParts) (board : Board) (from : Place) → takes_groups from ≡ false
     → can_take rules board from 1 ≡ is_some (single_at rules board from)
 can_take-single rules board (Tableau i) e = absurd (true≢false e)
-can_take-single rules board (Cell i) e = refl
-can_take-single rules board (Reserve i) e = refl
-can_take-single rules board Waste e = refl
-can_take-single rules board (Foundation f) e = refl
-can_take-single rules board Hole e = refl
-can_take-single rules board (Slot i) e = refl
+can_take-single rules board from e = refl
 
 taken-single : (rules : RuleParts) (board : Board) (from : Place) → takes_groups from ≡ false
     → taken rules board from 1 ≡ option_to_list (single_at rules board from)
 taken-single rules board (Tableau i) e = absurd (true≢false e)
-taken-single rules board (Cell i) e = refl
-taken-single rules board (Reserve i) e = refl
-taken-single rules board Waste e = refl
-taken-single rules board (Foundation f) e = refl
-taken-single rules board Hole e = refl
-taken-single rules board (Slot i) e = refl
+taken-single rules board from e = refl
 
 pub between-single : (rules : RuleParts) (board : Board) (to from : Place) → takes_groups from ≡ false
     → legal_between rules board to from ≡ filter (is_legal_move rules board) (Carry from to 1 ∷ [])

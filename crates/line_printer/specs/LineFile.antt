@@ -21,6 +21,7 @@ line_text (m ∷ moves) = ended (move_text m) ++ line_text moves
 abbrev pub parts_of : List ℕ → List (List ℕ)
 parts_of text = slice_split (λ b. b == 10) text
 
+-- how many newlines a text has
 abbrev pub newlines : List ℕ → ℕ
 newlines text = count_by (λ b. b == 10) text
 

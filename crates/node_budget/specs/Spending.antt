@@ -1,3 +1,4 @@
+-- What a contract sees of a budget of nodes.
 use Rattle.std.specs.Prelude.{ℕ}
 
 -- how many nodes may be spent, and how many were

@@ -43,13 +43,15 @@ pub record Shelved : Type 0 where
   pub before : List ℕ → ℕ
   pub after : List ℕ → ℕ
 
--- the names of the job's files: the words after the command
+-- the name of the rules file: the first word after the command
 abbrev pub rules_name : List (List ℕ) → List ℕ
 rules_name words = slice_index_or words 1 []
 
+-- the name of the deal file
 abbrev pub deal_name : List (List ℕ) → List ℕ
 deal_name words = slice_index_or words 2 []
 
+-- the name of the line file
 abbrev pub line_name : List (List ℕ) → List ℕ
 line_name words = slice_index_or words 3 []
 

@@ -10,8 +10,8 @@ use Rattle.game_rules.specs.declared.HoleStart.{HoleStart}
 use Rattle.game_rules.specs.declared.HoleStart.TheVariants.{Dealt}
 use Rattle.game_rules.specs.declared.Redeals.{Redeals}
 use Rattle.game_rules.specs.declared.Redeals.TheVariants.{Times, Unlimited}
-use Rattle.game_rules.specs.Conflicts.{IsPlayable, are_numbers_within, are_redeals_within, is_base_within, first_conflict}
-use Rattle.game_rules.proofs.Limits.{numbers_within, both}
+use Rattle.game_rules.specs.Conflicts.{IsPlayable, are_redeals_within, is_base_within, first_conflict}
+use Rattle.game_rules.proofs.Limits.{numbers_of, both}
 use Rattle.rules_json.specs.Words.{start_named, start_word, HasNamedStart}
 use Rattle.rules_json.specs.Values.{redeals}
 use Rattle.rules_json.specs.Parts.{top_of, tableau_of, foundations_of, hole_of, sequences_of, cells_of, reserve_of, stock_of}
@@ -93,33 +93,11 @@ pub record AreWithin (rules : RuleParts) : Type 0 where
 
 pub within_of : (rules : RuleParts) → IsPlayable rules → AreWithin rules
 within_of rules playable =
-    let to_redeals = both _ _ (numbers_within rules playable) in
-    let to_draw = both _ _ to_redeals.0 in
-    let to_stock = both _ _ to_draw.0 in
-    let to_reserve = both _ _ to_stock.0 in
-    let to_filled = both _ _ to_reserve.0 in
-    let to_cells = both _ _ to_filled.0 in
-    let to_base = both _ _ to_cells.0 in
-    let to_piles = both _ _ to_base.0 in
-    let to_rank = both _ _ to_piles.0 in
-    let decks = both _ _ to_rank.0 in
-    let rank = both _ _ to_rank.1 in
-    let draw = both _ _ to_draw.1 in
-    record {
-      some_deck = decks.0;
-      decks = decks.1;
-      some_rank = rank.0;
-      max_rank = rank.1;
-      piles = to_piles.1;
-      base = to_base.1;
-      cells = to_cells.1;
-      filled = to_filled.1;
-      reserve = to_reserve.1;
-      stock = to_stock.1;
-      some_draw = draw.0;
-      draw = draw.1;
-      redeals = to_redeals.1;
-    }
+    let n = numbers_of rules playable in
+    let decks = both (nat_le 1 rules.decks) (nat_le rules.decks 2) n.decks in
+    let rank = both (nat_le 1 rules.max_rank) (nat_le rules.max_rank 13) n.max_rank in
+    let draw = both (nat_le 1 rules.draw) (nat_le rules.draw 10) n.draw in
+    grind (arith, n, decks, rank, draw)
 
 top_of-tree : (rules : RuleParts) (goal : Goal) → nat_le 1 rules.decks ≡ true → nat_le rules.decks 2 ≡ true → nat_le 1 rules.max_rank ≡ true → nat_le rules.max_rank 13 ≡ true
     → top_of (object (put (goal_key goal) (goal_tree goal) (common_parts rules))) ≡ Ok (record { decks = rules.decks; max_rank = rules.max_rank })

@@ -56,21 +56,22 @@ an_entry rules board k belongs here = entry-here rules.stacked _ (length board.r
 before-same_kind : (rank k i : ℕ) → IsTrue (nat_lt rank rank || ((rank == rank) && nat_lt k i)) → k < i
 before-same_kind rank k i h = grind (arith, nat_tests, h)
 
+-- what holds of piles, cells and entries of the reserve holds of each place that gives safely
+by_place : (P : Place → Type 0) → ((k : ℕ) → P (Tableau k)) → ((k : ℕ) → P (Cell k)) → ((k : ℕ) → P (Reserve k))
+    → (p : Place) → IsTrue (gives_safely p) → P p
+by_place P piles cells entries (Tableau k) safely = piles k
+by_place P piles cells entries (Cell k) safely = cells k
+by_place P piles cells entries (Reserve k) safely = entries k
+by_place P piles cells entries p safely = absurd (grind (arith, safely))
+
 -- the first place of all, from the first of each kind
 pub first-pile : (rules : RuleParts) (board : Board) (card : Card) (i : ℕ) → IsLeast (λ i. gives rules board card (Tableau i)) (Some i)
     → IsFirstPlace rules board card (Tableau i)
 first-pile rules board card i least = record {
   safely = refl;
   here = least.0;
-  first = λ p. elim p as (λ (p : Place). IsTrue (gives_safely p) → is_place_before source_rank p (Tableau i) ≡ true → gives rules board card p ≡ false) [
-    | Tableau k ↦ λ s h. least.1 k (before-same_kind 0 k i h)
-    | Cell k ↦ λ s h. absurd (grind (arith, h))
-    | Reserve k ↦ λ s h. absurd (grind (arith, h))
-    | Waste ↦ λ s h. absurd (grind (arith, s))
-    | Foundation f ↦ λ s h. absurd (grind (arith, s))
-    | Hole ↦ λ s h. absurd (grind (arith, s))
-    | Slot k ↦ λ s h. absurd (grind (arith, s))
-  ];
+  first = by_place (λ p. is_place_before source_rank p (Tableau i) ≡ true → gives rules board card p ≡ false)
+      (λ k h. least.1 k (before-same_kind 0 k i h)) (λ k h. absurd (grind (arith, h))) (λ k h. absurd (grind (arith, h)));
 }
 
 pub first-cell : (rules : RuleParts) (board : Board) (card : Card) (i : ℕ) → ((k : ℕ) → gives rules board card (Tableau k) ≡ false)
@@ -78,15 +79,8 @@ pub first-cell : (rules : RuleParts) (board : Board) (card : Card) (i : ℕ) →
 first-cell rules board card i piles least = record {
   safely = refl;
   here = least.0;
-  first = λ p. elim p as (λ (p : Place). IsTrue (gives_safely p) → is_place_before source_rank p (Cell i) ≡ true → gives rules board card p ≡ false) [
-    | Tableau k ↦ λ s h. piles k
-    | Cell k ↦ λ s h. least.1 k (before-same_kind 1 k i h)
-    | Reserve k ↦ λ s h. absurd (grind (arith, h))
-    | Waste ↦ λ s h. absurd (grind (arith, s))
-    | Foundation f ↦ λ s h. absurd (grind (arith, s))
-    | Hole ↦ λ s h. absurd (grind (arith, s))
-    | Slot k ↦ λ s h. absurd (grind (arith, s))
-  ];
+  first = by_place (λ p. is_place_before source_rank p (Cell i) ≡ true → gives rules board card p ≡ false)
+      (λ k h. piles k) (λ k h. least.1 k (before-same_kind 1 k i h)) (λ k h. absurd (grind (arith, h)));
 }
 
 pub first-entry : (rules : RuleParts) (board : Board) (card : Card) (i : ℕ) → ((k : ℕ) → gives rules board card (Tableau k) ≡ false)
@@ -95,27 +89,11 @@ pub first-entry : (rules : RuleParts) (board : Board) (card : Card) (i : ℕ) �
 first-entry rules board card i piles cells least = record {
   safely = refl;
   here = least.0;
-  first = λ p. elim p as (λ (p : Place). IsTrue (gives_safely p) → is_place_before source_rank p (Reserve i) ≡ true → gives rules board card p ≡ false) [
-    | Tableau k ↦ λ s h. piles k
-    | Cell k ↦ λ s h. cells k
-    | Reserve k ↦ λ s h. least.1 k (before-same_kind 2 k i h)
-    | Waste ↦ λ s h. absurd (grind (arith, s))
-    | Foundation f ↦ λ s h. absurd (grind (arith, s))
-    | Hole ↦ λ s h. absurd (grind (arith, s))
-    | Slot k ↦ λ s h. absurd (grind (arith, s))
-  ];
+  first = by_place (λ p. is_place_before source_rank p (Reserve i) ≡ true → gives rules board card p ≡ false)
+      (λ k h. piles k) (λ k h. cells k) (λ k h. least.1 k (before-same_kind 2 k i h));
 }
 
 pub first-none : (rules : RuleParts) (board : Board) (card : Card) → ((k : ℕ) → gives rules board card (Tableau k) ≡ false)
     → ((k : ℕ) → gives rules board card (Cell k) ≡ false) → ((k : ℕ) → gives rules board card (Reserve k) ≡ false)
     → (p : Place) → IsTrue (gives_safely p) → gives rules board card p ≡ false
-first-none rules board card piles cells entries p =
-    elim p as (λ (p : Place). IsTrue (gives_safely p) → gives rules board card p ≡ false) [
-      | Tableau k ↦ λ s. piles k
-      | Cell k ↦ λ s. cells k
-      | Reserve k ↦ λ s. entries k
-      | Waste ↦ λ s. absurd (grind (arith, s))
-      | Foundation f ↦ λ s. absurd (grind (arith, s))
-      | Hole ↦ λ s. absurd (grind (arith, s))
-      | Slot k ↦ λ s. absurd (grind (arith, s))
-    ]
+first-none rules board card piles cells entries = by_place (λ p. gives rules board card p ≡ false) piles cells entries

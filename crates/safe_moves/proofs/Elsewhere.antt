@@ -13,15 +13,7 @@ use Rattle.game_rules.specs.Board.{Board, Pile, empty_pile, pile_at, entry_at, h
 use Rattle.game_rules.specs.Taking.{without, pile_without, pile_gives, single_at, can_take, taken}
 use Rattle.game_rules.specs.Putting.{with_cards, can_put, goes_on_pile, is_complete_run, is_next_on}
 use Rattle.game_rules.specs.Play.{same_place}
-
--- two writes at different places, each of a value made of the old one there, may change their order
-two_writes : {A : Type 0} (xs : List A) (i j : ℕ) (f g : A → A) (d : A) → i ≢ j
-    → slice_set (slice_set xs j (g (slice_index_or xs j d))) i (f (slice_index_or (slice_set xs j (g (slice_index_or xs j d))) i d))
-    ≡ slice_set (slice_set xs i (f (slice_index_or xs i d))) j (g (slice_index_or (slice_set xs i (f (slice_index_or xs i d))) j d))
-two_writes {A = A} xs i j f g d apart = grind (arith, set_comm {A = A}, get_or-set_other {A = A})
-
-apart_numbers : (i j : ℕ) → (i == j) ≡ false → i ≢ j
-apart_numbers i j h = grind (arith, nat_tests)
+use Rattle.game_rules.proofs.Carrying.{apart_numbers, two_writes}
 
 -- the places that cards are taken from, where foundations give nothing back
 abbrev pub is_source : Place → Bool
@@ -29,9 +21,7 @@ is_source (Tableau i) = true
 is_source (Cell i) = true
 is_source (Reserve i) = true
 is_source Waste = true
-is_source (Foundation f) = false
-is_source Hole = false
-is_source (Slot i) = false
+is_source place = false
 
 -- a stacked reserve has one place
 abbrev pub are_reserves_apart : RuleParts → Place → Place → Bool
@@ -80,128 +70,55 @@ kept_reserve false xs i j h apart = kept_other xs i j None None apart
 
 pub agree-without : (rules : RuleParts) (b : Board) (p q : Place) (k : ℕ) → IsTrue (is_source p) → Apart rules p q
     → AgreeAt rules b (without rules b p k) q
+agree-without rules b p (Slot j) k s apart = tt
 agree-without rules b (Tableau i) (Tableau j) k s apart = kept_other b.piles j i _ empty_pile apart.places
-agree-without rules b (Tableau i) (Cell j) k s apart = refl
-agree-without rules b (Tableau i) (Reserve j) k s apart = refl
-agree-without rules b (Tableau i) Waste k s apart = refl
-agree-without rules b (Tableau i) (Foundation j) k s apart = refl
-agree-without rules b (Tableau i) Hole k s apart = refl
-agree-without rules b (Tableau i) (Slot j) k s apart = tt
-agree-without rules b (Cell i) (Tableau j) k s apart = refl
 agree-without rules b (Cell i) (Cell j) k s apart = kept_other b.cells j i _ None apart.places
-agree-without rules b (Cell i) (Reserve j) k s apart = refl
-agree-without rules b (Cell i) Waste k s apart = refl
-agree-without rules b (Cell i) (Foundation j) k s apart = refl
-agree-without rules b (Cell i) Hole k s apart = refl
-agree-without rules b (Cell i) (Slot j) k s apart = tt
-agree-without rules b (Reserve i) (Tableau j) k s apart = refl
-agree-without rules b (Reserve i) (Cell j) k s apart = refl
 agree-without rules b (Reserve i) (Reserve j) k s apart = kept_reserve rules.stacked b.reserve j i apart.reserves apart.places
-agree-without rules b (Reserve i) Waste k s apart = refl
-agree-without rules b (Reserve i) (Foundation j) k s apart = refl
-agree-without rules b (Reserve i) Hole k s apart = refl
-agree-without rules b (Reserve i) (Slot j) k s apart = tt
-agree-without rules b Waste (Tableau j) k s apart = refl
-agree-without rules b Waste (Cell j) k s apart = refl
-agree-without rules b Waste (Reserve j) k s apart = refl
 agree-without rules b Waste Waste k s apart = absurd (grind (arith, nat_tests, apart.places))
-agree-without rules b Waste (Foundation j) k s apart = refl
-agree-without rules b Waste Hole k s apart = refl
-agree-without rules b Waste (Slot j) k s apart = tt
 agree-without rules b (Foundation i) q k s apart = absurd (grind (arith, s))
 agree-without rules b Hole q k s apart = absurd (grind (arith, s))
 agree-without rules b (Slot i) q k s apart = absurd (grind (arith, s))
+agree-without rules b p q k s apart = refl
 
 pub agree-with : (rules : RuleParts) (b : Board) (p q : Place) (cards : List Card) → same_place p q ≡ false
     → AgreeAt rules b (with_cards b p cards) q
+agree-with rules b p (Slot j) cards apart = tt
 agree-with rules b (Tableau i) (Tableau j) cards apart = kept_other b.piles j i _ empty_pile apart
-agree-with rules b (Tableau i) (Cell j) cards apart = refl
-agree-with rules b (Tableau i) (Reserve j) cards apart = refl
-agree-with rules b (Tableau i) Waste cards apart = refl
-agree-with rules b (Tableau i) (Foundation j) cards apart = refl
-agree-with rules b (Tableau i) Hole cards apart = refl
-agree-with rules b (Tableau i) (Slot j) cards apart = tt
-agree-with rules b (Cell i) (Tableau j) cards apart = refl
 agree-with rules b (Cell i) (Cell j) cards apart = kept_other b.cells j i _ None apart
-agree-with rules b (Cell i) (Reserve j) cards apart = refl
-agree-with rules b (Cell i) Waste cards apart = refl
-agree-with rules b (Cell i) (Foundation j) cards apart = refl
-agree-with rules b (Cell i) Hole cards apart = refl
-agree-with rules b (Cell i) (Slot j) cards apart = tt
-agree-with rules b (Foundation i) (Tableau j) cards apart = refl
-agree-with rules b (Foundation i) (Cell j) cards apart = refl
-agree-with rules b (Foundation i) (Reserve j) cards apart = refl
-agree-with rules b (Foundation i) Waste cards apart = refl
 agree-with rules b (Foundation i) (Foundation j) cards apart = kept_other b.heights j i _ 0 apart
-agree-with rules b (Foundation i) Hole cards apart = refl
-agree-with rules b (Foundation i) (Slot j) cards apart = tt
-agree-with rules b Hole (Tableau j) cards apart = refl
-agree-with rules b Hole (Cell j) cards apart = refl
-agree-with rules b Hole (Reserve j) cards apart = refl
-agree-with rules b Hole Waste cards apart = refl
-agree-with rules b Hole (Foundation j) cards apart = refl
 agree-with rules b Hole Hole cards apart = absurd (grind (arith, nat_tests, apart))
-agree-with rules b Hole (Slot j) cards apart = tt
-agree-with rules b (Slot i) (Tableau j) cards apart = refl
-agree-with rules b (Slot i) (Cell j) cards apart = refl
-agree-with rules b (Slot i) (Reserve j) cards apart = refl
-agree-with rules b (Slot i) Waste cards apart = refl
-agree-with rules b (Slot i) (Foundation j) cards apart = refl
-agree-with rules b (Slot i) Hole cards apart = refl
-agree-with rules b (Slot i) (Slot j) cards apart = tt
-agree-with rules b (Reserve i) (Slot j) cards apart = tt
-agree-with rules b (Reserve i) (Tableau j) cards apart = refl
-agree-with rules b (Reserve i) (Cell j) cards apart = refl
-agree-with rules b (Reserve i) (Reserve j) cards apart = refl
-agree-with rules b (Reserve i) Waste cards apart = refl
-agree-with rules b (Reserve i) (Foundation j) cards apart = refl
-agree-with rules b (Reserve i) Hole cards apart = refl
-agree-with rules b Waste (Slot j) cards apart = tt
-agree-with rules b Waste (Tableau j) cards apart = refl
-agree-with rules b Waste (Cell j) cards apart = refl
-agree-with rules b Waste (Reserve j) cards apart = refl
 agree-with rules b Waste Waste cards apart = refl
-agree-with rules b Waste (Foundation j) cards apart = refl
-agree-with rules b Waste Hole cards apart = refl
+agree-with rules b Waste (Tableau j) cards apart = refl
+agree-with rules b (Reserve i) (Reserve j) cards apart = refl
+agree-with rules b p q cards apart = refl
 
 pub agree-trans : (rules : RuleParts) (a b c : Board) (q : Place) → AgreeAt rules a b q → AgreeAt rules b c q → AgreeAt rules a c q
-agree-trans rules a b c (Tableau i) h k = h ∙ k
-agree-trans rules a b c (Cell i) h k = h ∙ k
-agree-trans rules a b c (Reserve i) h k = h ∙ k
-agree-trans rules a b c Waste h k = h ∙ k
-agree-trans rules a b c (Foundation f) h k = h ∙ k
-agree-trans rules a b c Hole h k = h ∙ k
 agree-trans rules a b c (Slot i) h k = tt
+agree-trans rules a b c q h k = h ∙ k
 
 pub can_take-agree : (rules : RuleParts) (a b : Board) (q : Place) (n : ℕ) → IsTrue (is_source q) → AgreeAt rules a b q
     → can_take rules a q n ≡ can_take rules b q n
 can_take-agree rules a b (Tableau i) n s h = ap (λ pile. pile_gives rules pile n) h
-can_take-agree rules a b (Cell i) n s h = ap (λ e. (n == 1) && is_some e) h
-can_take-agree rules a b (Reserve i) n s h = ap (λ e. (n == 1) && is_some e) h
 can_take-agree rules a b Waste n s h = ap (λ (cards : List Card). (n == 1) && is_some (top_of cards)) h
 can_take-agree rules a b (Foundation f) n s h = absurd (grind (arith, s))
 can_take-agree rules a b Hole n s h = absurd (grind (arith, s))
 can_take-agree rules a b (Slot i) n s h = absurd (grind (arith, s))
+can_take-agree rules a b q n s h = ap (λ e. (n == 1) && is_some e) h
 
 pub taken-agree : (rules : RuleParts) (a b : Board) (q : Place) (n : ℕ) → IsTrue (is_source q) → AgreeAt rules a b q
     → taken rules a q n ≡ taken rules b q n
 taken-agree rules a b (Tableau i) n s h = ap (λ (pile : Pile). top_part n pile.cards) h
+taken-agree rules a b Waste n s h = ap (λ (cards : List Card). option_to_list (top_of cards)) h
 taken-agree rules a b (Cell i) n s h = ap option_to_list h
 taken-agree rules a b (Reserve i) n s h = ap option_to_list h
-taken-agree rules a b Waste n s h = ap (λ (cards : List Card). option_to_list (top_of cards)) h
-taken-agree rules a b (Foundation f) n s h = absurd (grind (arith, s))
-taken-agree rules a b Hole n s h = absurd (grind (arith, s))
-taken-agree rules a b (Slot i) n s h = absurd (grind (arith, s))
+taken-agree rules a b q n s h = absurd (grind (arith, s))
 
 -- the places that cards are put on where the goal is foundations
 abbrev pub is_target : Place → Bool
 is_target (Tableau i) = true
 is_target (Cell i) = true
-is_target (Reserve i) = false
-is_target Waste = false
 is_target (Foundation f) = true
-is_target Hole = false
-is_target (Slot i) = false
+is_target place = false
 
 pub can_put-agree : (rules : RuleParts) (a b : Board) (q : Place) (cards : List Card) → IsTrue (is_target q) → AgreeAt rules a b q
     → can_put rules a q cards ≡ can_put rules b q cards
@@ -210,10 +127,7 @@ can_put-agree rules a b (Tableau i) (card ∷ cards) s h = ap (λ (pile : Pile).
 can_put-agree rules a b (Cell i) (card ∷ cards) s h = ap (λ e. (length cards == 0) && is_none e) h
 can_put-agree rules a b (Foundation f) (card ∷ cards) s h =
     ap (λ (n : ℕ). if takes_complete_runs rules.goal then is_complete_run rules f n (card ∷ cards) else (length cards == 0) && is_next_on rules f n card) h
-can_put-agree rules a b (Reserve i) (card ∷ cards) s h = absurd (grind (arith, s))
-can_put-agree rules a b Waste (card ∷ cards) s h = absurd (grind (arith, s))
-can_put-agree rules a b Hole (card ∷ cards) s h = absurd (grind (arith, s))
-can_put-agree rules a b (Slot i) (card ∷ cards) s h = absurd (grind (arith, s))
+can_put-agree rules a b q (card ∷ cards) s h = absurd (grind (arith, s))
 
 -- a board has the same places before and after a move
 place_reserve : (stacked : Bool) (xs : List (Option Card)) (i j : ℕ)
@@ -224,65 +138,25 @@ place_reserve false xs i j = ap (λ (n : ℕ). nat_lt j n) (length-set xs i None
 
 pub place-without : (rules : RuleParts) (b : Board) (p q : Place) (k : ℕ) → IsTrue (is_source p)
     → has_place rules (without rules b p k) q ≡ has_place rules b q
-place-without rules b (Tableau i) (Tableau j) k s = ap (λ (n : ℕ). nat_lt j n) (length-set b.piles i _)
-place-without rules b (Tableau i) (Cell j) k s = refl
-place-without rules b (Tableau i) (Reserve j) k s = refl
-place-without rules b (Tableau i) Waste k s = refl
-place-without rules b (Tableau i) (Foundation j) k s = refl
-place-without rules b (Tableau i) Hole k s = refl
-place-without rules b (Tableau i) (Slot j) k s = refl
-place-without rules b (Cell i) (Cell j) k s = ap (λ (n : ℕ). nat_lt j n) (length-set b.cells i None)
-place-without rules b (Cell i) (Tableau j) k s = refl
-place-without rules b (Cell i) (Reserve j) k s = refl
-place-without rules b (Cell i) Waste k s = refl
-place-without rules b (Cell i) (Foundation j) k s = refl
-place-without rules b (Cell i) Hole k s = refl
-place-without rules b (Cell i) (Slot j) k s = refl
-place-without rules b (Reserve i) (Reserve j) k s = place_reserve rules.stacked b.reserve i j
-place-without rules b (Reserve i) (Tableau j) k s = refl
-place-without rules b (Reserve i) (Cell j) k s = refl
-place-without rules b (Reserve i) Waste k s = refl
-place-without rules b (Reserve i) (Foundation j) k s = refl
-place-without rules b (Reserve i) Hole k s = refl
-place-without rules b (Reserve i) (Slot j) k s = refl
-place-without rules b Waste (Tableau j) k s = refl
-place-without rules b Waste (Cell j) k s = refl
-place-without rules b Waste (Reserve j) k s = refl
-place-without rules b Waste Waste k s = refl
-place-without rules b Waste (Foundation j) k s = refl
-place-without rules b Waste Hole k s = refl
-place-without rules b Waste (Slot j) k s = refl
 place-without rules b (Foundation i) q k s = absurd (grind (arith, s))
 place-without rules b Hole q k s = absurd (grind (arith, s))
 place-without rules b (Slot i) q k s = absurd (grind (arith, s))
+place-without rules b (Tableau i) (Tableau j) k s = ap (λ (n : ℕ). nat_lt j n) (length-set b.piles i _)
+place-without rules b (Cell i) (Cell j) k s = ap (λ (n : ℕ). nat_lt j n) (length-set b.cells i None)
+place-without rules b (Reserve i) (Reserve j) k s = place_reserve rules.stacked b.reserve i j
+place-without rules b Waste (Tableau j) k s = refl
+place-without rules b p q k s = refl
 
 pub place-with : (rules : RuleParts) (b : Board) (p q : Place) (cards : List Card) → IsTrue (is_target p)
     → has_place rules (with_cards b p cards) q ≡ has_place rules b q
 place-with rules b (Tableau i) (Tableau j) cards s = ap (λ (n : ℕ). nat_lt j n) (length-set b.piles i _)
-place-with rules b (Tableau i) (Cell j) cards s = refl
-place-with rules b (Tableau i) (Reserve j) cards s = refl
-place-with rules b (Tableau i) Waste cards s = refl
-place-with rules b (Tableau i) (Foundation j) cards s = refl
-place-with rules b (Tableau i) Hole cards s = refl
-place-with rules b (Tableau i) (Slot j) cards s = refl
 place-with rules b (Cell i) (Cell j) cards s = ap (λ (n : ℕ). nat_lt j n) (length-set b.cells i _)
-place-with rules b (Cell i) (Tableau j) cards s = refl
-place-with rules b (Cell i) (Reserve j) cards s = refl
-place-with rules b (Cell i) Waste cards s = refl
-place-with rules b (Cell i) (Foundation j) cards s = refl
-place-with rules b (Cell i) Hole cards s = refl
-place-with rules b (Cell i) (Slot j) cards s = refl
 place-with rules b (Foundation i) (Foundation j) cards s = ap (λ (n : ℕ). nat_lt j n) (length-set b.heights i _)
-place-with rules b (Foundation i) (Tableau j) cards s = refl
-place-with rules b (Foundation i) (Cell j) cards s = refl
-place-with rules b (Foundation i) (Reserve j) cards s = refl
-place-with rules b (Foundation i) Waste cards s = refl
-place-with rules b (Foundation i) Hole cards s = refl
-place-with rules b (Foundation i) (Slot j) cards s = refl
 place-with rules b (Reserve i) q cards s = absurd (grind (arith, s))
 place-with rules b Waste q cards s = absurd (grind (arith, s))
 place-with rules b Hole q cards s = absurd (grind (arith, s))
 place-with rules b (Slot i) q cards s = absurd (grind (arith, s))
+place-with rules b p q cards s = refl
 
 -- two places may be emptied in either order
 both_reserves : (stacked : Bool) (xs : List (Option Card)) (i j : ℕ) → IsTrue (not stacked) → (i == j) ≡ false
@@ -298,34 +172,23 @@ pub without_both : (rules : RuleParts) (b : Board) (p q : Place) (k n : ℕ) →
 without_both rules b (Tableau i) (Tableau j) k n s t apart =
     sym (ap (λ (piles : List Pile). record b { piles = piles })
     (two_writes b.piles i j (pile_without k) (pile_without n) empty_pile (apart_numbers i j apart.places)))
-without_both rules b (Tableau i) (Cell j) k n s t apart = refl
-without_both rules b (Tableau i) (Reserve j) k n s t apart = refl
-without_both rules b (Tableau i) Waste k n s t apart = refl
-without_both rules b (Cell i) (Tableau j) k n s t apart = refl
 without_both rules b (Cell i) (Cell j) k n s t apart =
     ap (λ (cells : List (Option Card)). record b { cells = cells }) (set_comm b.cells i j None None (apart_numbers i j apart.places))
-without_both rules b (Cell i) (Reserve j) k n s t apart = refl
-without_both rules b (Cell i) Waste k n s t apart = refl
-without_both rules b (Reserve i) (Tableau j) k n s t apart = refl
-without_both rules b (Reserve i) (Cell j) k n s t apart = refl
 without_both rules b (Reserve i) (Reserve j) k n s t apart =
     ap (λ (entries : List (Option Card)). record b { reserve = entries }) (both_reserves rules.stacked b.reserve i j apart.reserves apart.places)
-without_both rules b (Reserve i) Waste k n s t apart = refl
-without_both rules b Waste (Tableau j) k n s t apart = refl
-without_both rules b Waste (Cell j) k n s t apart = refl
-without_both rules b Waste (Reserve j) k n s t apart = refl
 without_both rules b Waste Waste k n s t apart = absurd (grind (arith, nat_tests, apart.places))
-without_both rules b p q k n s t apart = absurd (grind (arith, s, t))
+without_both rules b (Foundation f) q k n s t apart = absurd (grind (arith, s))
+without_both rules b Hole q k n s t apart = absurd (grind (arith, s))
+without_both rules b (Slot i) q k n s t apart = absurd (grind (arith, s))
+without_both rules b p (Foundation f) k n s t apart = absurd (grind (arith, t))
+without_both rules b p Hole k n s t apart = absurd (grind (arith, t))
+without_both rules b p (Slot i) k n s t apart = absurd (grind (arith, t))
+without_both rules b p q k n s t apart = refl
 
 -- cards may be put on a foundation and on another place in either order
 pub home_and_put : (b : Board) (f : ℕ) (q : Place) (cards others : List Card) → same_place (Foundation f) q ≡ false
     → with_cards (with_cards b (Foundation f) cards) q others ≡ with_cards (with_cards b q others) (Foundation f) cards
-home_and_put b f (Tableau i) cards others apart = refl
-home_and_put b f (Cell i) cards others apart = refl
-home_and_put b f (Reserve i) cards others apart = refl
-home_and_put b f Waste cards others apart = refl
 home_and_put b f (Foundation g) cards others apart =
     sym (ap (λ (heights : List ℕ). record b { heights = heights })
     (two_writes b.heights f g (λ h. h + length cards) (λ h. h + length others) 0 (apart_numbers f g apart)))
-home_and_put b f Hole cards others apart = refl
-home_and_put b f (Slot i) cards others apart = refl
+home_and_put b f q cards others apart = refl

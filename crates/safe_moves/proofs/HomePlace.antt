@@ -18,7 +18,7 @@ use Rattle.game_rules.specs.Board.{Board, height_at, suit_at, foundation_card, f
 use Rattle.game_rules.specs.Belonging.{Belongs}
 use Rattle.safe_moves.specs.Safe.{is_home, rules_allow}
 use Rattle.safe_moves.specs.Need.{home_place}
-use Rattle.game_rules.proofs.Limits.{both, past, was_false, numbers_within, limits_of}
+use Rattle.game_rules.proofs.Limits.{both, past, was_false, numbers_of, limits_of}
 use Rattle.safe_moves.proofs.AtHome.{found-from_any, any-from_found, any_of_map, home_at}
 use Rattle.safe_moves.proofs.SafeFacts.{Allowed, allowed, all_at}
 use Rattle.safe_moves.proofs.SafeExchange.{four}
@@ -76,16 +76,9 @@ below_of false m b h k = cc
 
 pub base_within : (rules : RuleParts) → IsPlayable rules → IsTrue (is_foundation_goal rules.goal) → BaseWithin rules
 base_within rules playable goal =
-    let to_draw = both _ _ (numbers_within rules playable) in
-    let to_stock = both _ _ to_draw.0 in
-    let to_reserve = both _ _ to_stock.0 in
-    let to_filled = both _ _ to_reserve.0 in
-    let to_cells = both _ _ to_filled.0 in
-    let to_base = both _ _ to_cells.0 in
-    let base = both _ (is_base_within rules.goal) to_base.0 in
     let above : has_base_above rules ≡ false
     = was_false _ 8 _ (past _ 7 _ (past _ 6 _ (past _ 5 _ (past _ 4 _ (past _ 3 _ (past _ 2 _ playable.no_conflict)))))) in
-    record { low = base_low rules.goal base.1; high = below_of (is_foundation_goal rules.goal) rules.max_rank (base_of rules.goal) goal above }
+    record { low = base_low rules.goal (numbers_of rules playable).base; high = below_of (is_foundation_goal rules.goal) rules.max_rank (base_of rules.goal) goal above }
 
 -- suits and foundations
 pub place-of_suit : (n : ℕ) → n < 4 → place_of (suit_at n) ≡ n

@@ -1,77 +1,35 @@
 -- Small boards with and without a safe move, worked out by the definitions alone.
 use Rattle.std.proofs.Common.{◌≡◌, ℕ, true, false, List, [], ◌∷◌, refl}
 use Rattle.std.specs.Prelude.{Option, None, Some}
-use Rattle.card_piles.specs.declared.Card.{Card}
-use Rattle.card_piles.specs.declared.Suit.{Suit}
 use Rattle.card_piles.specs.declared.Suit.TheVariants.{Clubs}
 use Rattle.card_piles.specs.declared.Build.TheVariants.{RedBlack}
 use Rattle.game_rules.specs.declared.RuleParts.{RuleParts}
-use Rattle.game_rules.specs.declared.Layout.TheVariants.{Even}
-use Rattle.game_rules.specs.declared.Face.TheVariants.{AllUp}
-use Rattle.game_rules.specs.declared.Groups.TheVariants.{One}
 use Rattle.game_rules.specs.declared.Spaces.TheVariants.{NoFill}
-use Rattle.game_rules.specs.declared.Target.TheVariants.{ToWaste}
-use Rattle.game_rules.specs.declared.Redeals.TheVariants.{Times}
-use Rattle.game_rules.specs.declared.Goal.TheVariants.{Foundations}
 use Rattle.game_rules.specs.declared.Move.{Move}
 use Rattle.game_rules.specs.declared.Move.TheVariants.{Carry}
 use Rattle.game_rules.specs.declared.Place.TheVariants.{Tableau, Cell, Foundation}
 use Rattle.game_rules.specs.Board.{Board, Pile}
+use Rattle.game_rules.proofs.SmallWords.{board_of, card, plain, up}
 use Rattle.safe_moves.specs.Safe.{first_safe, is_safe}
-
-abbrev card : Suit → ℕ → Card
-card s r = record { suit = s; rank = r }
-
-abbrev up : List Card → Pile
-up cards = record { cards = cards; face_down = 0 }
 
 -- four ranks, two piles, one cell, and cards that build on the other colour
 abbrev four_ranks : ℕ → RuleParts
-four_ranks decks = record {
-  decks = decks;
-  max_rank = 4;
-  piles = 2;
-  layout = Even;
-  face = AllUp;
-  build = RedBlack;
-  wrap = false;
-  groups = One;
-  group_build = RedBlack;
-  spaces = NoFill;
-  goal = Foundations 1 false false false;
-  cells = 1;
-  cells_filled = 0;
-  reserve = 0;
-  stacked = false;
-  stock = 0;
-  target = ToWaste;
-  draw = 1;
-  redeals = Times 0;
-}
+four_ranks decks = record (plain 4 2) { decks = decks; build = RedBlack; group_build = RedBlack; spaces = NoFill; cells = 1 }
 
-abbrev board_of : List Pile → Option Card → List ℕ → Board
-board_of piles cell heights = record {
-  piles = piles;
-  cells = cell ∷ [];
-  reserve = [];
-  stock = [];
-  waste = [];
-  redeals_left = 0;
-  heights = heights;
-  hole = [];
-  slots = [];
-}
+-- a board with a free cell
+abbrev with_free_cell : List Pile → List ℕ → Board
+with_free_cell piles heights = record (board_of piles heights) { cells = None ∷ [] }
 
 -- an ace is safe, and its move home is the one step
 abbrev ace_free : Board
-ace_free = board_of (up (card Clubs 2 ∷ card Clubs 3 ∷ card Clubs 4 ∷ []) ∷ up (card Clubs 1 ∷ []) ∷ []) None (0 ∷ 4 ∷ 4 ∷ 4 ∷ [])
+ace_free = with_free_cell (up (card Clubs 2 ∷ card Clubs 3 ∷ card Clubs 4 ∷ []) ∷ up (card Clubs 1 ∷ []) ∷ []) (0 ∷ 4 ∷ 4 ∷ 4 ∷ [])
 
 pub ace_free-first : first_safe (four_ranks 1) ace_free ≡ Some (Carry (Tableau 1) (Foundation 0) 1)
 ace_free-first = refl
 
 -- a two is safe only once both aces of the other colour are home, and with one deck
 abbrev two_free : ℕ → ℕ → Board
-two_free diamonds hearts = board_of (up (card Clubs 2 ∷ []) ∷ up [] ∷ []) None (1 ∷ diamonds ∷ hearts ∷ 4 ∷ [])
+two_free diamonds hearts = with_free_cell (up (card Clubs 2 ∷ []) ∷ up [] ∷ []) (1 ∷ diamonds ∷ hearts ∷ 4 ∷ [])
 
 abbrev two_home : Move
 two_home = Carry (Tableau 0) (Foundation 0) 1

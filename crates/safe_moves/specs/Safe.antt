@@ -8,7 +8,7 @@ use Rattle.game_rules.specs.declared.RuleParts.{RuleParts}
 use Rattle.game_rules.specs.declared.Move.{Move}
 use Rattle.game_rules.specs.declared.Move.TheVariants.{Carry, Deal, Redeal}
 use Rattle.game_rules.specs.declared.Place.{Place}
-use Rattle.game_rules.specs.declared.Place.TheVariants.{Tableau, Cell, Reserve, Waste, Foundation, Hole, Slot}
+use Rattle.game_rules.specs.declared.Place.TheVariants.{Tableau, Cell, Reserve, Foundation}
 use Rattle.game_rules.specs.Rules.{is_foundation_goal, takes_back, takes_complete_runs, deals_to_tableau}
 use Rattle.game_rules.specs.Board.{Board, suit_at, foundation_cards, height_at}
 use Rattle.game_rules.specs.Taking.{taken}
@@ -43,20 +43,12 @@ abbrev pub gives_safely : Place → Bool
 gives_safely (Tableau i) = true
 gives_safely (Cell i) = true
 gives_safely (Reserve i) = true
-gives_safely Waste = false
-gives_safely (Foundation f) = false
-gives_safely Hole = false
-gives_safely (Slot i) = false
+gives_safely place = false
 
 -- whether the place is a foundation
 abbrev pub is_foundation : Place → Bool
-is_foundation (Tableau i) = false
-is_foundation (Cell i) = false
-is_foundation (Reserve i) = false
-is_foundation Waste = false
 is_foundation (Foundation f) = true
-is_foundation Hole = false
-is_foundation (Slot i) = false
+is_foundation place = false
 
 -- whether the move may be forced: one card legally goes to its foundation, and no card can still need it
 abbrev pub is_safe : RuleParts → Board → Move → Bool

@@ -185,9 +185,6 @@ small-coloured rules board small =
     let stock : length (map coloured board.stock) ≡ length board.stock = length-map board.stock coloured in
     let waste : length (map coloured board.waste) ≡ length board.waste = length-map board.waste coloured in
     let slots : length (map coloured_entry board.slots) ≡ length board.slots = length-map board.slots coloured_entry in
-    let in_piles = piles-coloured board.piles in
-    let in_cells = cards_in-coloured board.cells in
-    let in_reserve = cards_in-coloured board.reserve in
     let reserve_most : length board.reserve ≤ rules.reserve = small.reserve in
     let stock_most : length board.stock + length board.waste ≤ rules.stock = small.stock in
     let cards : length (cards_of_piles board.piles) + length (cards_in board.cells) + length (cards_in board.reserve) + length board.stock + length board.waste ≤ 52 * rules.decks = small.cards in
@@ -197,7 +194,7 @@ small-coloured rules board small =
       reserve = omega (arith, reserve, reserve_most);
       stock = omega (arith, stock, waste, stock_most);
       slots = slots ∙ small.slots;
-      cards = omega (arith, in_piles, in_cells, in_reserve, stock, waste, cards);
+      cards = omega (arith, piles-coloured board.piles, cards_in-coloured board.cells, cards_in-coloured board.reserve, stock, waste, cards);
     }
 
 both-count : (rules : RuleParts) (board : Board) → length (both_heights rules board) ≡ 4 * rules.decks

@@ -131,19 +131,16 @@ if_left_out true xs e = cc
 if_left_out false xs e = refl
 
 no_foundations : (goal : Goal) → is_hole_goal goal ≡ true → is_foundation_goal goal ≡ false
-no_foundations (Foundations base started take_back complete_runs) e = cc
 no_foundations (Hole wrap start) e = refl
-no_foundations Sequences e = refl
+no_foundations goal e = cc
 
 no_sequence_foundations : (goal : Goal) → is_sequence_goal goal ≡ true → is_foundation_goal goal ≡ false
-no_sequence_foundations (Foundations base started take_back complete_runs) e = cc
-no_sequence_foundations (Hole wrap start) e = refl
 no_sequence_foundations Sequences e = refl
+no_sequence_foundations goal e = cc
 
 no_sequence_hole : (goal : Goal) → is_sequence_goal goal ≡ true → is_hole_goal goal ≡ false
-no_sequence_hole (Foundations base started take_back complete_runs) e = refl
 no_sequence_hole (Hole wrap start) e = cc
-no_sequence_hole Sequences e = refl
+no_sequence_hole goal e = refl
 
 whole_if : (t : Bool) (n m : ℕ) → t ≡ true → n ≡ (if t then m else 0) → n ≡ m
 whole_if true n m e h = h
@@ -162,42 +159,53 @@ small_parts rules board heights limits n =
     (λ no. let none : length (hole_bytes rules board) ≡ 0 = if_left_out (is_hole_goal rules.goal) (length board.hole ∷ entry_byte (top_of board.hole) ∷ []) no in
     omega (arith, none, h, n, decks))
 
+-- the length of the pieces of a key one after the other
+piece-lengths : (s w h o c r p q : List ℕ)
+    → length (length s ∷ s ++ (length w ∷ w ++ (h ++ (o ++ (length c ∷ c ++ (length r ∷ r ++ (p ++ q)))))))
+    ≡ 4 + length s + length w + length h + length o + length c + length r + length p + length q
+piece-lengths s w h o c r p q =
+    omega (
+      arith,
+      length-append s (length w ∷ w ++ (h ++ (o ++ (length c ∷ c ++ (length r ∷ r ++ (p ++ q)))))),
+      length-append w (h ++ (o ++ (length c ∷ c ++ (length r ∷ r ++ (p ++ q))))),
+      length-append h (o ++ (length c ∷ c ++ (length r ∷ r ++ (p ++ q)))),
+      length-append o (length c ∷ c ++ (length r ∷ r ++ (p ++ q))),
+      length-append c (length r ∷ r ++ (p ++ q)),
+      length-append r (p ++ q),
+      length-append p q,
+    )
+
 -- the length is the sum of the parts
 pub key-length : (rules : RuleParts) (board : Board) (h : List ℕ) → length (key_with h rules board)
     ≡ 5 + length board.stock + length board.waste + length h + length (hole_bytes rules board)
     + length (cards_in board.cells) + length (cards_in board.reserve) + (2 * length board.piles + length (cards_of_piles board.piles)) + length (rows_bytes rules board)
 key-length rules board h =
-    let s : List ℕ = card_bytes board.stock in
-    let w : List ℕ = card_bytes board.waste in
-    let o : List ℕ = hole_bytes rules board in
-    let c : List ℕ = cell_bytes board in
-    let r : List ℕ = reserve_bytes rules board in
-    let p : List ℕ = concat (piles_bytes rules board) in
-    let q : List ℕ = rows_bytes rules board in
-    let e₁ = length-append s (length w ∷ w ++ (h ++ (o ++ (length c ∷ c ++ (length r ∷ r ++ (p ++ q)))))) in
-    let e₂ = length-append w (h ++ (o ++ (length c ∷ c ++ (length r ∷ r ++ (p ++ q))))) in
-    let e₃ = length-append h (o ++ (length c ∷ c ++ (length r ∷ r ++ (p ++ q)))) in
-    let e₄ = length-append o (length c ∷ c ++ (length r ∷ r ++ (p ++ q))) in
-    let e₅ = length-append c (length r ∷ r ++ (p ++ q)) in
-    let e₆ = length-append r (p ++ q) in
-    let e₇ = length-append p q in
-    let n₁ : length s ≡ length board.stock = length-map board.stock card_byte in
-    let n₂ : length w ≡ length board.waste = length-map board.waste card_byte in
-    let n₃ : length c ≡ length (cards_in board.cells) = cells-size board.cells in
-    let n₄ : length r ≡ length (cards_in board.reserve) = reserve-size rules.stacked board.reserve in
-    let n₅ : length p ≡ 2 * length board.piles + length (cards_of_piles board.piles) = piles-size (keeps_pile_order rules board) board.piles in
-    omega (arith, e₁, e₂, e₃, e₄, e₅, e₆, e₇, n₁, n₂, n₃, n₄, n₅)
+    let pieces = piece-lengths (card_bytes board.stock) (card_bytes board.waste) h (hole_bytes rules board) (cell_bytes board)
+    (reserve_bytes rules board) (concat (piles_bytes rules board)) (rows_bytes rules board) in
+    let n₁ : length (card_bytes board.stock) ≡ length board.stock = length-map board.stock card_byte in
+    let n₂ : length (card_bytes board.waste) ≡ length board.waste = length-map board.waste card_byte in
+    let n₃ : length (cell_bytes board) ≡ length (cards_in board.cells) = cells-size board.cells in
+    let n₄ : length (reserve_bytes rules board) ≡ length (cards_in board.reserve) = reserve-size rules.stacked board.reserve in
+    let n₅ : length (concat (piles_bytes rules board)) ≡ 2 * length board.piles + length (cards_of_piles board.piles) =
+    piles-size (keeps_pile_order rules board) board.piles in
+    omega (arith, pieces, n₁, n₂, n₃, n₄, n₅)
 
 -- the cards that a key names, piece by piece
-pub board-size : (board : Board) → length (cards_of_piles board.piles) + length (cards_in board.cells) + length (cards_in board.reserve) + length board.stock + length board.waste
-    ≤ length (cards_of_board board)
-board-size board =
+board-lengths : (board : Board) → length (cards_of_board board)
+    ≡ length (cards_of_piles board.piles) + length (cards_in board.cells) + length (cards_in board.reserve) + length board.stock
+    + length board.waste + length board.hole + length (cards_in board.slots)
+board-lengths board =
     let e₁ = length-append (cards_of_piles board.piles) (cards_in board.cells ++ (cards_in board.reserve ++ (board.stock ++ (board.waste ++ (board.hole ++ cards_in board.slots))))) in
     let e₂ = length-append (cards_in board.cells) (cards_in board.reserve ++ (board.stock ++ (board.waste ++ (board.hole ++ cards_in board.slots)))) in
     let e₃ = length-append (cards_in board.reserve) (board.stock ++ (board.waste ++ (board.hole ++ cards_in board.slots))) in
     let e₄ = length-append board.stock (board.waste ++ (board.hole ++ cards_in board.slots)) in
     let e₅ = length-append board.waste (board.hole ++ cards_in board.slots) in
-    omega (arith, e₁, e₂, e₃, e₄, e₅)
+    let e₆ = length-append board.hole (cards_in board.slots) in
+    omega (arith, e₁, e₂, e₃, e₄, e₅, e₆)
+
+pub board-size : (board : Board) → length (cards_of_piles board.piles) + length (cards_in board.cells) + length (cards_in board.reserve) + length board.stock + length board.waste
+    ≤ length (cards_of_board board)
+board-size board = omega (arith, board-lengths board)
 
 no_cards : (piles : List Pile) → length piles ≡ 0 → length (cards_of_piles piles) ≡ 0
 no_cards [] e = refl
@@ -260,11 +268,4 @@ key-short rules board playable belongs =
     key_with-short rules board (all_heights rules board) playable (small_board rules board (limits_of rules playable) belongs) (heights-size rules board)
 
 pub hole-few : (board : Board) → length board.hole ≤ length (cards_of_board board)
-hole-few board =
-    let e₁ = length-append (cards_of_piles board.piles) (cards_in board.cells ++ (cards_in board.reserve ++ (board.stock ++ (board.waste ++ (board.hole ++ cards_in board.slots))))) in
-    let e₂ = length-append (cards_in board.cells) (cards_in board.reserve ++ (board.stock ++ (board.waste ++ (board.hole ++ cards_in board.slots)))) in
-    let e₃ = length-append (cards_in board.reserve) (board.stock ++ (board.waste ++ (board.hole ++ cards_in board.slots))) in
-    let e₄ = length-append board.stock (board.waste ++ (board.hole ++ cards_in board.slots)) in
-    let e₅ = length-append board.waste (board.hole ++ cards_in board.slots) in
-    let e₆ = length-append board.hole (cards_in board.slots) in
-    omega (arith, e₁, e₂, e₃, e₄, e₅, e₆)
+hole-few board = omega (arith, board-lengths board)

@@ -25,6 +25,7 @@ use Rattle.same_boards.specs.Keys.{sorted_bytes, sorted_lists, card_byte, card_b
 use Rattle.game_rules.proofs.Limits.{limits_of}
 use Rattle.same_boards.proofs.SameLaws.{same_order}
 use Rattle.same_boards.proofs.SameWins.{row_length, rows_count}
+use Rattle.same_boards.proofs.SameLaws.{same_with_heights}
 use Rattle.same_boards.proofs.SameKeys.{key-from_same}
 use Rattle.same_boards.proofs.Sorting.{sorted-permutation, permutation-from_sorted}
 use Rattle.game_rules.specs.Position.{HasRanks}
@@ -367,20 +368,9 @@ same-from_key rules a b playable in_a in_b e =
     let parts : KeyParts rules a b (height_bytes rules a) (height_bytes rules b) =
     cards-from_key rules a b (height_bytes rules a) (height_bytes rules b) (ranks-belong rules a limits in_a) (ranks-belong rules b limits in_b) (shape_of rules a in_a) (shape_of rules b in_b)
     (if_size (is_foundation_goal rules.goal) (all_heights rules a) (all_heights rules b) (heights_size rules a b)) e in
-    let cards : SameCards rules a b = parts.cards in
-    record {
-      stock = cards.stock;
-      waste = cards.waste;
-      redeals_left = cards.redeals_left;
-      hole_size = cards.hole_size;
-      hole_top = cards.hole_top;
-      heights = heights-from_bytes rules a b (is_foundation_goal rules.goal) in_a.foundations in_b.foundations
-          (if_same (is_foundation_goal rules.goal) (all_heights rules a) (all_heights rules b) parts.heights);
-      cells = cards.cells;
-      reserve = cards.reserve;
-      rows = cards.rows;
-      piles = cards.piles;
-    }
+    same_with_heights rules a b parts.cards
+    (heights-from_bytes rules a b (is_foundation_goal rules.goal) in_a.foundations in_b.foundations
+    (if_same (is_foundation_goal rules.goal) (all_heights rules a) (all_heights rules b) parts.heights))
 
 -- two boards of the same rules have one key exactly where they are the same
 pub key-same : (rules : RuleParts) (a b : Board) → IsPlayable rules → Belongs rules a → Belongs rules b

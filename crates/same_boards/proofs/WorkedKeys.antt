@@ -34,30 +34,13 @@ higher_ranks Hearts n a b c d = simp (a, b, c, d)
 higher_ranks Spades n a b c d = simp (a, b, c, d)
 
 ace_under_two-ranks : (s : Suit) (r : ℕ) → copies_on (two_ranks 2) ace_under_two (record { suit = s; rank = r }) ≡ copies_due (two_ranks 2) (record { suit = s; rank = r })
-ace_under_two-ranks Clubs zero = refl
-ace_under_two-ranks Clubs (suc zero) = refl
-ace_under_two-ranks Clubs (suc (suc zero)) = refl
-ace_under_two-ranks Clubs (suc (suc (suc r))) =
+ace_under_two-ranks s (suc (suc (suc r))) =
     let n : ℕ = suc (suc (suc r)) in
-    higher_ranks Clubs n (ne_eqb n 1 (λ e. omega arith)) (ne_eqb n 2 (λ e. omega arith)) (le-leb 1 n (omega arith)) (lt-leb n 2 (omega arith))
-ace_under_two-ranks Diamonds zero = refl
-ace_under_two-ranks Diamonds (suc zero) = refl
-ace_under_two-ranks Diamonds (suc (suc zero)) = refl
-ace_under_two-ranks Diamonds (suc (suc (suc r))) =
-    let n : ℕ = suc (suc (suc r)) in
-    higher_ranks Diamonds n (ne_eqb n 1 (λ e. omega arith)) (ne_eqb n 2 (λ e. omega arith)) (le-leb 1 n (omega arith)) (lt-leb n 2 (omega arith))
-ace_under_two-ranks Hearts zero = refl
-ace_under_two-ranks Hearts (suc zero) = refl
-ace_under_two-ranks Hearts (suc (suc zero)) = refl
-ace_under_two-ranks Hearts (suc (suc (suc r))) =
-    let n : ℕ = suc (suc (suc r)) in
-    higher_ranks Hearts n (ne_eqb n 1 (λ e. omega arith)) (ne_eqb n 2 (λ e. omega arith)) (le-leb 1 n (omega arith)) (lt-leb n 2 (omega arith))
-ace_under_two-ranks Spades zero = refl
-ace_under_two-ranks Spades (suc zero) = refl
-ace_under_two-ranks Spades (suc (suc zero)) = refl
-ace_under_two-ranks Spades (suc (suc (suc r))) =
-    let n : ℕ = suc (suc (suc r)) in
-    higher_ranks Spades n (ne_eqb n 1 (λ e. omega arith)) (ne_eqb n 2 (λ e. omega arith)) (le-leb 1 n (omega arith)) (lt-leb n 2 (omega arith))
+    higher_ranks s n (ne_eqb n 1 (λ e. omega arith)) (ne_eqb n 2 (λ e. omega arith)) (le-leb 1 n (omega arith)) (lt-leb n 2 (omega arith))
+ace_under_two-ranks Clubs r = refl
+ace_under_two-ranks Diamonds r = refl
+ace_under_two-ranks Hearts r = refl
+ace_under_two-ranks Spades r = refl
 
 ace_under_two-cards : (card : Card) → copies_on (two_ranks 2) ace_under_two card ≡ copies_due (two_ranks 2) card
 ace_under_two-cards card = ace_under_two-ranks card.suit card.rank

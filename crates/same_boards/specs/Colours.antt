@@ -27,10 +27,12 @@ pub record SameCards (rules : RuleParts) (a b : Board) : Type 0 where
 abbrev pub coloured : Card → Card
 coloured card = record { suit = if is_red card.suit then Diamonds else Clubs; rank = card.rank }
 
+-- the entry with its card, if it has one, as its colour and rank
 abbrev pub coloured_entry : Option Card → Option Card
 coloured_entry None = None
 coloured_entry (Some card) = Some (coloured card)
 
+-- the pile with each card as its colour and rank
 abbrev pub coloured_pile : Pile → Pile
 coloured_pile pile = record { cards = map coloured pile.cards; face_down = pile.face_down }
 
@@ -46,10 +48,11 @@ coloured_board board = record board {
   slots = map coloured_entry board.slots;
 }
 
--- the heights of the foundations of a colour
+-- the heights of the black foundations
 abbrev pub black_heights : RuleParts → Board → List ℕ
 black_heights rules board = heights_of_suit rules board 0 ++ heights_of_suit rules board 3
 
+-- the heights of the red foundations
 abbrev pub red_heights : RuleParts → Board → List ℕ
 red_heights rules board = heights_of_suit rules board 1 ++ heights_of_suit rules board 2
 
@@ -59,6 +62,7 @@ pub record SameColours (rules : RuleParts) (a b : Board) : Type 0 where
   pub black : IsPermutation (black_heights rules a) (black_heights rules b)
   pub red : IsPermutation (red_heights rules a) (red_heights rules b)
 
+-- the heights of each colour in ascending order, where the game has foundations
 abbrev pub colour_height_bytes : RuleParts → Board → List ℕ
 colour_height_bytes rules board =
     if is_foundation_goal rules.goal

@@ -55,6 +55,7 @@ after_hole rules deck = beside_hole rules.goal (after_foundations rules deck)
 
 -- Step 3. The next cards fill so many cells, from cell 0 on.
 
+-- the cells after the deal
 abbrev pub dealt_cells : RuleParts → List Card → List (Option Card)
 dealt_cells rules deck = filled rules.cells None (map (λ card. Some card) (take rules.cells_filled (after_hole rules deck)))
 
@@ -64,6 +65,7 @@ after_cells rules deck = drop rules.cells_filled (after_hole rules deck)
 
 -- Step 4. The next cards fill the reserve, from entry 0 on, or from the bottom where it is stacked.
 
+-- the reserve after the deal
 abbrev pub dealt_reserve : RuleParts → List Card → List (Option Card)
 dealt_reserve rules deck = map (λ card. Some card) (take rules.reserve (after_cells rules deck))
 
@@ -73,6 +75,7 @@ after_reserve rules deck = drop rules.reserve (after_cells rules deck)
 
 -- Step 5. The next cards make the stock.
 
+-- the stock after the deal
 abbrev pub dealt_stock : RuleParts → List Card → List Card
 dealt_stock rules deck = take rules.stock (after_reserve rules deck)
 
@@ -114,6 +117,7 @@ abbrev pub turned : Face → List Card → Pile
 turned AllUp cards = record { cards = cards; face_down = 0 }
 turned TopUp cards = record { cards = cards; face_down = length cards - 1 }
 
+-- the piles after the deal
 abbrev pub dealt_piles : RuleParts → List Card → List Pile
 dealt_piles rules deck = map (turned rules.face) (piles_laid rules.layout rules.piles (after_stock rules deck))
 

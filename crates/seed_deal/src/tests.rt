@@ -1,42 +1,10 @@
 //! Small decks dealt by hand, card by card.
 
 use super::*;
-use card_piles::{Build, Card, card_of};
-use game_model::{
-    Face, Goal, Groups, HoleStart, Layout, Redeals, RuleParts, Rules, Spaces, Target,
-};
+use card_piles::{Card, card_of};
 use rand_core::Rng;
 use rand_pcg::Lcg64Xsh32;
-
-/// A game of one rank with no place but the foundations.
-fn aces() -> RuleParts {
-    RuleParts {
-        decks: 1,
-        max_rank: 1,
-        piles: 0,
-        layout: Layout::Even,
-        face: Face::AllUp,
-        build: Build::NoBuild,
-        wrap: false,
-        groups: Groups::One,
-        group_build: Build::NoBuild,
-        spaces: Spaces::Any,
-        goal: Goal::Foundations {
-            base: 1,
-            started: false,
-            take_back: false,
-            complete_runs: false,
-        },
-        cells: 0,
-        cells_filled: 0,
-        reserve: 0,
-        stacked: false,
-        stock: 0,
-        target: Target::ToWaste,
-        draw: 1,
-        redeals: Redeals::Times(0),
-    }
-}
+use small_games::rules_of;
 
 #[test]
 fn the_words_are_those_of_the_generator(rt: HostRuntime) {
@@ -50,7 +18,7 @@ fn the_words_are_those_of_the_generator(rt: HostRuntime) {
 
 #[test]
 fn the_aces_of_seed_42(rt: HostRuntime) {
-    let rules = Rules::new(RuleParts { piles: 1, ..aces() }).expect(&rt, "rules");
+    let rules = rules_of("ranks 1 piles 1 cells 0 reserve 0 stock 0").expect(&rt, "rules");
     let board = deal_from_seed(rt.alloc(), &rules, 42).expect(&rt, "a board");
     let aces = [
         card_of(b"AC"),
@@ -66,12 +34,11 @@ fn the_aces_of_seed_42(rt: HostRuntime) {
 
 #[test]
 fn a_stock_takes_all_cards_or_none_fits(rt: HostRuntime) {
-    let rules = |stock| Rules::new(RuleParts { stock, ..aces() });
-    let five = rules(5).expect(&rt, "rules");
+    let five = rules_of("ranks 1 piles 0 cells 0 reserve 0 stock 5").expect(&rt, "rules");
     assert!(rt; deal_from_seed(rt.alloc(), &five, 0).err() == Some(SeedFault::TooFewCards));
-    let three = rules(3).expect(&rt, "rules");
+    let three = rules_of("ranks 1 piles 0 cells 0 reserve 0 stock 3").expect(&rt, "rules");
     assert!(rt; deal_from_seed(rt.alloc(), &three, 0).err() == Some(SeedFault::TooManyCards));
-    let four = rules(4).expect(&rt, "rules");
+    let four = rules_of("ranks 1 piles 0 cells 0 reserve 0 stock 4").expect(&rt, "rules");
     let board = deal_from_seed(rt.alloc(), &four, 42).expect(&rt, "a board");
     assert!(rt;
         board.stock().len() == 4 && board.stock()[1] == card_of(b"AS").expect(&rt, "an ace")

@@ -20,7 +20,7 @@ use Rattle.solver_words.specs.declared.options.Taker.TheVariants as taker
 use Rattle.solver_words.specs.declared.options.Options.{Options}
 use Rattle.solver_words.specs.Numbers.{number_of, number_within, within}
 use Rattle.solver_words.specs.Options.{no_options, setting_at, memo_named, way_named, value_at, with_value, options_from}
-use Rattle.solver_words.specs.Jobs.{after_name, no_more, names_deal, seed_of, solve_file_of, solve_seed_of, solve_of, replay_of, deal_of, rules_of, job_of, IsWithinLimits}
+use Rattle.solver_words.specs.Jobs.{solve_given, after_name, no_more, names_deal, seed_of, solve_file_of, solve_seed_of, solve_of, replay_of, deal_of, rules_of, job_of, IsWithinLimits}
 use Rattle.solver_words.proofs.Choices.{ok_before}
 
 -- A number within limits is at least the lower one and at most the higher one.
@@ -50,7 +50,7 @@ limits-value_at at low high n word h = limits-within low high n (number_of word)
 
 -- The job that solves with these options has its numbers within their limits.
 abbrev AreWithin : Options → Type 0
-AreWithin given = IsWithinLimits (Solve File (unwrap_or given.cache 100000) (unwrap_or given.nodes 1000000) (unwrap_or given.narrow 0) (unwrap_or given.way Both) (unwrap_or given.memo Linked))
+AreWithin given = IsWithinLimits (solve_given File given)
 
 limits-with_value : (at : ℕ) (setting : Setting) (given more : Options) (word : List ℕ) → AreWithin given → with_value at setting given word ≡ Ok more
     → AreWithin more

@@ -8,7 +8,9 @@ use Rattle.solver_words.specs.declared.job.Job.{Job}
 use Rattle.solver_words.specs.declared.job.Job.TheVariants as job
 use Rattle.solver_words.specs.declared.job.MemoWord.TheVariants.{Linked}
 use Rattle.solver_words.specs.declared.job.Way.TheVariants.{Both}
+use Rattle.solver_words.specs.declared.job.Source.{Source}
 use Rattle.solver_words.specs.declared.job.Source.TheVariants.{File, FromSeed}
+use Rattle.solver_words.specs.declared.options.Options.{Options}
 use Rattle.solver_words.specs.declared.options.Taker.TheVariants as taker
 use Rattle.solver_words.specs.Choice.{◌>>=◌}
 use Rattle.solver_words.specs.Options.{no_options, options_from}
@@ -37,17 +39,23 @@ abbrev pub seed_of : Option ℕ → Result ℕ WordFault
 seed_of None = Err MissingSeed
 seed_of (Some seed) = Ok seed
 
+-- the job that solves a deal of this source, with what the options say and their defaults
+abbrev pub solve_given : Source → Options → Job
+solve_given source given =
+    job.Solve source (unwrap_or given.cache 100000) (unwrap_or given.nodes 1000000) (unwrap_or given.narrow 0)
+    (unwrap_or given.way Both) (unwrap_or given.memo Linked)
+
 -- after `solve` and the name of the rules: the name of the deal, then options
 abbrev pub solve_file_of : List (List ℕ) → Result Job WordFault
 solve_file_of words =
     after_name words >>= λ words. options_from taker.SolveFile 3 no_options words >>= λ given.
-    Ok (job.Solve File (unwrap_or given.cache 100000) (unwrap_or given.nodes 1000000) (unwrap_or given.narrow 0) (unwrap_or given.way Both) (unwrap_or given.memo Linked))
+    Ok (solve_given File given)
 
 -- the same with no name of a deal: options, a seed among them
 abbrev pub solve_seed_of : List (List ℕ) → Result Job WordFault
 solve_seed_of words =
     options_from taker.SolveSeed 2 no_options words >>= λ given. seed_of given.seed >>= λ seed.
-    Ok (job.Solve (FromSeed seed) (unwrap_or given.cache 100000) (unwrap_or given.nodes 1000000) (unwrap_or given.narrow 0) (unwrap_or given.way Both) (unwrap_or given.memo Linked))
+    Ok (solve_given (FromSeed seed) given)
 
 -- after `solve`: the name of the rules, then that of a deal or a seed
 abbrev pub solve_of : List (List ℕ) → Result Job WordFault

@@ -1,9 +1,9 @@
 //! The words of a command line.
 ghost use Rattle.std.specs.Prelude.{◌≡◌, ◌+◌, ◌<◌, ◌≤◌, ◌^◌, length, Ok, Err, IfOk, IfErr};
 ghost use Rattle.solver_words.specs.Texts.{texts};
-ghost use Rattle.solver_words.specs.Jobs.{is_name as is_name_of, after_name as after_name_of, no_more as no_more_of, names_deal as names_deal_of, solve_file_of, solve_seed_of, solve_of, replay_of, deal_of, rules_of, job_of, name_count, IsWithinLimits};
+ghost use Rattle.solver_words.specs.Jobs.{is_name as is_name_of, after_name as after_name_of, no_more as no_more_of, names_deal as names_deal_of, solve_given as solve_given_of, solve_file_of, solve_seed_of, solve_of, replay_of, deal_of, rules_of, job_of, name_count, IsWithinLimits};
 
-use crate::options::{Taker, read_options};
+use crate::options::{Options, Taker, read_options};
 use crate::{Job, MemoWord, Source, Way, WordFault};
 
 const DEFAULT_CACHE: u32 = 100_000;
@@ -49,6 +49,20 @@ fn names_deal(words: &[String]) -> bool
     }
 }
 
+// The job that solves a deal of this source, with what the options say and their defaults.
+fn solve_given(source: Source, given: Options) -> Job
+    ensures { result ≡ solve_given_of source given }
+{
+    Job::Solve {
+        source,
+        cache: given.cache.unwrap_or(DEFAULT_CACHE),
+        nodes: given.nodes.unwrap_or(DEFAULT_NODES),
+        narrow: given.narrow.unwrap_or(0),
+        way: given.way.unwrap_or(Way::Both),
+        memo: given.memo.unwrap_or(MemoWord::Linked),
+    }
+}
+
 fn solve_file(words: &[String]) -> Result<Job, WordFault>
     requires { length words.now + 2 < 2 ^ 32 }
     ensures job { result ≡ solve_file_of (texts words.now) }
@@ -56,14 +70,7 @@ fn solve_file(words: &[String]) -> Result<Job, WordFault>
 {
     let words = after_name(words)?;
     let given = read_options(Taker::SolveFile, 3, words)?;
-    Ok(Job::Solve {
-        source: Source::File,
-        cache: given.cache.unwrap_or(DEFAULT_CACHE),
-        nodes: given.nodes.unwrap_or(DEFAULT_NODES),
-        narrow: given.narrow.unwrap_or(0),
-        way: given.way.unwrap_or(Way::Both),
-        memo: given.memo.unwrap_or(MemoWord::Linked),
-    })
+    Ok(solve_given(Source::File, given))
 }
 
 fn solve_seed(words: &[String]) -> Result<Job, WordFault>
@@ -75,14 +82,7 @@ fn solve_seed(words: &[String]) -> Result<Job, WordFault>
     let Some(seed) = given.seed else {
         return Err(WordFault::MissingSeed);
     };
-    Ok(Job::Solve {
-        source: Source::FromSeed(seed),
-        cache: given.cache.unwrap_or(DEFAULT_CACHE),
-        nodes: given.nodes.unwrap_or(DEFAULT_NODES),
-        narrow: given.narrow.unwrap_or(0),
-        way: given.way.unwrap_or(Way::Both),
-        memo: given.memo.unwrap_or(MemoWord::Linked),
-    })
+    Ok(solve_given(Source::FromSeed(seed), given))
 }
 
 fn solve(words: &[String]) -> Result<Job, WordFault>

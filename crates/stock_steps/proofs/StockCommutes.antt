@@ -26,43 +26,23 @@ use Rattle.stock_steps.proofs.StockKin.{empty_is, deal_legal, Kin, Redealt, size
 
 has_place-stock : (rules : RuleParts) (b : Board) (s w : List Card) (r : ℕ) (place : Place)
     → has_place rules (with_stock b s w r) place ≡ has_place rules b place
-has_place-stock rules b s w r (Tableau i) = refl
-has_place-stock rules b s w r (Cell i) = refl
-has_place-stock rules b s w r (Reserve i) = refl
 has_place-stock rules b s w r Waste = refl
-has_place-stock rules b s w r (Foundation i) = refl
-has_place-stock rules b s w r Hole = refl
-has_place-stock rules b s w r (Slot i) = refl
+has_place-stock rules b s w r place = refl
 
 can_take-stock : (rules : RuleParts) (b : Board) (s w : List Card) (r : ℕ) (from to : Place) (count : ℕ) → is_from_waste (Carry from to count) ≡ false
     → can_take rules (with_stock b s w r) from count ≡ can_take rules b from count
-can_take-stock rules b s w r (Tableau i) to count h = refl
-can_take-stock rules b s w r (Cell i) to count h = refl
-can_take-stock rules b s w r (Reserve i) to count h = refl
 can_take-stock rules b s w r Waste to count h = cc
-can_take-stock rules b s w r (Foundation i) to count h = refl
-can_take-stock rules b s w r Hole to count h = refl
-can_take-stock rules b s w r (Slot i) to count h = refl
+can_take-stock rules b s w r from to count h = refl
 
 taken-stock : (rules : RuleParts) (b : Board) (s w : List Card) (r : ℕ) (from to : Place) (count : ℕ) → is_from_waste (Carry from to count) ≡ false
     → taken rules (with_stock b s w r) from count ≡ taken rules b from count
-taken-stock rules b s w r (Tableau i) to count h = refl
-taken-stock rules b s w r (Cell i) to count h = refl
-taken-stock rules b s w r (Reserve i) to count h = refl
 taken-stock rules b s w r Waste to count h = cc
-taken-stock rules b s w r (Foundation i) to count h = refl
-taken-stock rules b s w r Hole to count h = refl
-taken-stock rules b s w r (Slot i) to count h = refl
+taken-stock rules b s w r from to count h = refl
 
 without-stock : (rules : RuleParts) (b : Board) (s w : List Card) (r : ℕ) (from to : Place) (count : ℕ) → is_from_waste (Carry from to count) ≡ false
     → without rules (with_stock b s w r) from count ≡ with_stock (without rules b from count) s w r
-without-stock rules b s w r (Tableau i) to count h = refl
-without-stock rules b s w r (Cell i) to count h = refl
-without-stock rules b s w r (Reserve i) to count h = refl
 without-stock rules b s w r Waste to count h = cc
-without-stock rules b s w r (Foundation i) to count h = refl
-without-stock rules b s w r Hole to count h = refl
-without-stock rules b s w r (Slot i) to count h = refl
+without-stock rules b s w r from to count h = refl
 
 can_put-stock : (rules : RuleParts) (b : Board) (s w : List Card) (r : ℕ) (to : Place) (cards : List Card)
     → can_put rules (with_stock b s w r) to cards ≡ can_put rules b to cards

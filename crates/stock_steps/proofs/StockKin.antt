@@ -12,7 +12,8 @@ use Rattle.game_rules.specs.Board.{Board, top_part, below_top}
 use Rattle.game_rules.specs.Play.{Legal, is_empty, after}
 use Rattle.game_rules.specs.StockMoves.{is_carry, IsNextByStock, stock_move, after_stock_move, after_stock_moves, queue}
 use Rattle.game_rules.proofs.Limits.{both}
-use Rattle.game_rules.proofs.StockMoves.{target-waste, with_stock, Dealt, redeal-empty, stock_move-exact, stock_move_cases, queue-after_stock_moves}
+use Rattle.game_rules.proofs.StockMoves.{with_stock, Dealt, after_deal, stock_move-exact, stock_move_cases, queue-after_stock_moves}
+pub use Rattle.game_rules.proofs.StockMoves.{Redealt, empty_is, some_is, deal_legal, next_cases}
 use Rattle.stock_steps.specs.Steps.{same_cards, same_stock}
 
 -- boards that differ in stock, waste and redeals alone, with one queue
@@ -34,45 +35,6 @@ Kin-sym a b h = record {
   rest = sym (ap (λ (x : Board). with_stock x a.stock a.waste a.redeals_left) h.rest);
   queue = sym h.queue;
 }
-
--- what a redeal does, and when it may be made
-pub record Redealt (rules : RuleParts) (a b : Board) : Type 0 where
-  pub none : a.stock ≡ []
-  pub some : 0 < length a.waste
-  pub left : IsTrue (is_unlimited rules.redeals || nat_lt 0 a.redeals_left)
-  pub is_after : b ≡ with_stock a (reverse a.waste) [] (if is_unlimited rules.redeals then a.redeals_left else a.redeals_left - 1)
-
-pub empty_is : {A : Type 0} (xs : List A) → IsTrue (is_empty xs) → xs ≡ []
-empty_is [] h = refl
-empty_is (x ∷ xs) h = cc
-
-pub some_is : {A : Type 0} (xs : List A) → IsTrue (not (is_empty xs)) → 0 < length xs
-some_is [] h = cc
-some_is (x ∷ xs) h = omega arith
-
-after_deal : (rules : RuleParts) (a : Board) → IsTrue (deals_to_waste rules.target)
-    → after rules a Deal ≡ with_stock a (below_top rules.draw a.stock) (a.waste ++ reverse (top_part rules.draw a.stock)) a.redeals_left
-after_deal rules a to_waste = rw (target-waste rules.target to_waste) refl
-
--- a deal is legal where the stock has a card
-pub deal_legal : (rules : RuleParts) (a : Board) → IsTrue (deals_to_waste rules.target) → IsTrue (not (is_empty a.stock)) → Legal rules a Deal
-deal_legal rules a to_waste h = rw (h, target-waste rules.target to_waste)
-
-next_by : (rules : RuleParts) (a b : Board) (move : Move) → IsTrue (deals_to_waste rules.target)
-    → IsTrue (not (is_carry move)) → Legal rules a move → b ≡ after rules a move → Dealt rules a b ⊎ Redealt rules a b
-next_by rules a b (Carry from to count) to_waste stock legal is_after = cc
-next_by rules a b Deal to_waste stock legal is_after =
-    let tests = both _ _ legal in
-    inl (record { some = some_is a.stock tests.0; is_after = is_after ∙ after_deal rules a to_waste })
-next_by rules a b Redeal to_waste stock legal is_after =
-    let left = both _ _ legal in
-    let some = both _ _ left.0 in
-    inr (record { none = redeal-empty rules a legal; some = some_is a.waste some.1; left = left.1; is_after = is_after })
-
--- a stock move is a deal or a redeal
-pub next_cases : (rules : RuleParts) (a b : Board) → IsTrue (deals_to_waste rules.target) → IsNextByStock rules a b
-    → Dealt rules a b ⊎ Redealt rules a b
-next_cases rules a b to_waste h = next_by rules a b h.move to_waste h.is_stock_move h.legal h.is_after
 
 pub one_stock_move : (rules : RuleParts) (a : Board) (move : Move) → IsTrue (deals_to_waste rules.target)
     → IsTrue (not (is_carry move)) → Legal rules a move → stock_move rules a ≡ Some move

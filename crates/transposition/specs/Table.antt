@@ -18,6 +18,7 @@ key_at keys node = take 1 (drop (node - 1) keys)
 abbrev pub keys_at : {K : Type 0} → List K → List ℕ → List K
 keys_at keys nodes = flat_map (key_at keys) nodes
 
+-- the flag of a node
 abbrev pub flag_at : List Bool → ℕ → Bool
 flag_at flags node = slice_index_or flags node false
 

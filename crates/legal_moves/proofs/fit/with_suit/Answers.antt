@@ -8,26 +8,20 @@ use Rattle.legal_moves.proofs.fit.with_suit.Goals as goal
 
 pub returns-then-suits_fit : goal.returns-then-suits_fit
 returns-then-suits_fit c = λ card ranked.
-    let rules = c.args.rules.now in
-    let p : Suit → Bool = λ s. (c.args.rank == card.rank) && suits_fit rules.build s c.args.lower in
-    let fits : suits_fit rules.build c.args.suit c.args.lower ≡ true =
-    ap (λ b. suits_fit b c.args.suit c.args.lower) (sym c.build.ensures) ∙ sym c.suits_fit.ensures ∙ c.if-suits_fit.true in
+    let p : Suit → Bool = λ s. (c.args.rank == card.rank) && suits_fit c.args.rules.now.build s c.args.lower in
     rw (
       c.with.ensures card ranked,
       same_suit-swap p c.args.suit card.suit,
-      fits,
+      ap (λ b. suits_fit b c.args.suit c.args.lower) (sym c.build.ensures) ∙ sym c.suits_fit.ensures ∙ c.if-suits_fit.true,
       and-true (c.args.rank == card.rank),
     ) refl
 
 pub returns-else-suits_fit : goal.returns-else-suits_fit
 returns-else-suits_fit c = λ card ranked.
-    let rules = c.args.rules.now in
-    let p : Suit → Bool = λ s. (c.args.rank == card.rank) && suits_fit rules.build s c.args.lower in
-    let fits : suits_fit rules.build c.args.suit c.args.lower ≡ false =
-    ap (λ b. suits_fit b c.args.suit c.args.lower) (sym c.build.ensures) ∙ sym c.suits_fit.ensures ∙ c.if-suits_fit.false in
+    let p : Suit → Bool = λ s. (c.args.rank == card.rank) && suits_fit c.args.rules.now.build s c.args.lower in
     rw (
       same_suit-swap p c.args.suit card.suit,
-      fits,
+      ap (λ b. suits_fit b c.args.suit c.args.lower) (sym c.build.ensures) ∙ sym c.suits_fit.ensures ∙ c.if-suits_fit.false,
       and-false (c.args.rank == card.rank),
       and-false (same_suit c.args.suit card.suit),
     ) refl

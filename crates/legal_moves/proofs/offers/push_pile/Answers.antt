@@ -34,10 +34,10 @@ returns-in-None-clause-legal g c =
 
 pub loop-count-init : goal.loop-count-init
 loop-count-init g c =
+    let card : Card = c.in-Some.top in
     let rules = c.args.rules.now in
     let board : Board = g.T.Table.board c.args.table.now in
     let pile : Pile = pile_at board c.args.i in
-    let card : Card = c.in-Some.top in
     let top : top_of pile.cards ≡ Some card = ap top_of (sym c.pile-pile.ensures.cards) ∙ sym c.top.ensures ∙ c.in-Some.is in
     let reached : Reached rules pile.cards (g.T.Table.cards c.args.table.now c.under-left.result) card 1 =
     reached-first rules pile.cards _ card top (c.under-left.ensures.cards ∙ ap (below_top 1) c.pile-pile.ensures.cards) in
