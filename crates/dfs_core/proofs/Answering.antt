@@ -9,6 +9,7 @@ use Rattle.dfs_core.specs.declared.advance.NewState.{NewState}
 use Rattle.dfs_core.specs.declared.advance.Met.{Met}
 use Rattle.dfs_core.specs.declared.advance.Met.TheVariants as met
 use Rattle.dfs_core.specs.declared.trail.Found.{Found}
+use Rattle.dfs_core.specs.declared.trail.Found.TheVariants as found
 
 module _ {S State Step Key Undo : Type 0} (space : Ghosts S Key Step Undo State) (eq : Key → Key → Bool)
     {first : S} {walk : List (List Step)} {now : Values S Step Key Undo} where
@@ -34,20 +35,12 @@ module _ {S State Step Key Undo : Type 0} {space : Ghosts S Key Step Undo State}
   pub before_end : Shows (IsOver space eq) first walk now → Shows (IsSearch space eq) first walk now
   before_end h = record { line = h.line; laid = h.laid; is = h.is.before }
 
-  pub before_new : {new : NewState Step Undo Key} → (h : Shows (IsNew space eq new) first walk now)
-      → Shows (IsSearch space eq) first walk (record now { space = h.is.from })
-  before_new h = record { line = h.line; laid = h.laid; is = h.is.before }
-
   -- the walk ends with this answer
   pub answered : Shows (IsSearch space eq) first walk now → {capacity before spent limit : ℕ} {answer : Found Step}
-      → now.memory.capacity ≡ capacity → before + length walk ≡ spent
-      → EndsWith (game (problem_from space eq first)) (space.state first) capacity walk spent limit answer
+      → now.memory.capacity ≡ capacity → before + length walk ≡ spent → (answer ≡ found.SpentAll → spent ≡ limit)
+      → EndsWith (game (problem_from space eq first)) (space.state first) capacity walk answer
       → IsAnswer (game (problem_from space eq first)) (space.state first) capacity before spent limit answer
-  answered h capacity_is count ends = record {
-    walk = walk;
-    is_walk = h.is.underway.is_walk;
-    fresh = subst (λ k. IsFreshIn (problem_from space eq first) k walk) capacity_is
-        h.is.kept.fresh;
-    count = count;
-    ends = ends;
-  }
+  answered h capacity_is count spent_all ends =
+      let fresh = subst (λ k. IsFreshIn (problem_from space eq first) k walk) capacity_is h.is.kept.fresh in
+      let is_walk = h.is.underway.is_walk in
+      record { walk = walk; is_walk = is_walk; fresh = fresh; count = count; spent_all = spent_all; ends = ends }

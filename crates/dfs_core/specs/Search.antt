@@ -52,6 +52,7 @@ pub record Progress (T : Type 0) : Type 0 where
 abbrev pub path_of : {T U : Type 0} → List (FrameView T U) → List T
 path_of frames = map (λ f. f.step) frames
 
+-- how far a search is: its walk, its path, and how many steps of the current level were tried
 abbrev pub progress_of : {S Step Key Undo : Type 0} → Search S Step Key Undo → Progress Step
 progress_of search = record { walk = search.walk; path = path_of search.line.frames; tried = search.line.top.tried }
 
@@ -71,19 +72,23 @@ abbrev pub tried_more : {T : Type 0} → LevelView T → LevelView T
 tried_more level = record level { tried = level.tried + 1 }
 
 module _ {State Step Key : Type 0} (problem : Problem State Step Key) where
+  -- the game that the problem plays, in which states with equal keys are the same
   abbrev pub game : Game State Step
   game = game_of problem.play problem.eq
 
-  -- the end of a trail, its key and its steps, and the state after one of them
+  -- the end of a trail
   abbrev pub end_at : List Step → State
   end_at l = end game problem.start l
 
+  -- the key of that end
   abbrev pub key_at : List Step → Key
   key_at l = problem.play.key (end_at l)
 
+  -- the steps of that end
   abbrev pub steps_at : List Step → List Step
   steps_at l = problem.play.steps (end_at l)
 
+  -- the state after a step of that end
   abbrev pub after : List Step → Step → State
   after l u = problem.play.after (end_at l) u
 
@@ -91,25 +96,30 @@ module _ {State Step Key : Type 0} (problem : Problem State Step Key) where
   abbrev pub SameEnd : List Step → List Step → Type 0
   SameEnd l m = problem.eq (key_at l) (key_at m) ≡ true
 
-  -- the states of a path, and their keys
+  -- the states of a path
   abbrev pub states_at : List Step → List State
   states_at l = states game problem.start l
 
+  -- the keys of these states
   abbrev pub keys_at : List Step → List Key
   keys_at l = map problem.play.key (states_at l)
 
-  -- the words for walks, of this problem
+  -- the words for walks, of this problem: the state is not won, and the same as an end of the walk
   abbrev pub IsSettledIn : List (List Step) → State → Type 0
   IsSettledIn walk s = IsSettled game problem.start walk s
 
+  -- the trail repeats no state and meets no won state
   abbrev pub IsCleanIn : List Step → Type 0
   IsCleanIn z = IsClean game problem.start z
 
+  -- the trail may be expanded next
   abbrev pub FollowsIn : List (List Step) → List Step → Type 0
   FollowsIn walk z = Follows game problem.start walk z
 
+  -- the trails are a walk
   abbrev pub IsWalkIn : List (List Step) → Type 0
   IsWalkIn walk = IsWalk game problem.start walk
 
+  -- the walk is fresh up to the capacity
   abbrev pub IsFreshIn : ℕ → List (List Step) → Type 0
   IsFreshIn capacity walk = IsFresh game capacity problem.start walk

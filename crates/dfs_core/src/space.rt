@@ -1,6 +1,6 @@
 //! What is searched.
 
-ghost use Rattle.std.specs.Prelude.{◌≡◌, ◌≢◌, ◌↔◌, ℕ, Option, List, ◌++◌, OnOk, IsSome, Contains, AllPairs};
+ghost use Rattle.std.specs.Prelude.{◌≡◌, ◌≢◌, ◌↔◌, ℕ, Option, List, ◌++◌, OnOk, OnErr, IsSome, Contains, AllPairs};
 ghost use Rattle.dfs_core.specs.Play.{Play};
 
 use std::alloc::Global;
@@ -35,10 +35,11 @@ pub trait Space {
     ghost wins: { Self → ℕ → Self.State → Type 0 };
 
     /// Appends the steps of the state in their order. No step stands twice. The space stays as it is, also after an
-    /// `Err`, and then what was appended is not said.
+    /// `Err`, and then the list is as before too.
     fn steps(&mut self, alloc: Global, out: &mut Vec<Self::Step>) -> Result<(), NoMemory>
         ensures same { self.new ≡ self.old }
         ensures ok { OnOk result (out.new.items ≡ out.old.items ++ (play self.old).steps (state self.old)) }
+        ensures as_before { OnErr result (out.new.items ≡ out.old.items) }
         ensures differ { AllPairs (λ a b. a ≢ b) ((play self.old).steps (state self.old)) };
 
     /// Makes a step of the state.

@@ -56,11 +56,15 @@ impl<'a> Space for Walker<'a> {
     ghost wins = { λ w within n. n ≡ w.1 };
 
     fn steps(&mut self, _alloc: Global, out: &mut Vec<bool>) -> Result<(), NoMemory> {
-        if self.at < self.course.last {
-            out.push(false)?;
-            out.push(true)?;
+        if self.at >= self.course.last {
+            return Ok(());
         }
-        Ok(())
+        let size = out.len();
+        if out.push(false).is_ok() && out.push(true).is_ok() {
+            return Ok(());
+        }
+        out.truncate(size);
+        Err(NoMemory)
     }
 
     fn go(&mut self, step: bool) -> u32 {

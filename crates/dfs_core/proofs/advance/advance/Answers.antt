@@ -1,8 +1,7 @@
-use Rattle.std.proofs.Common.{◌≡◌, ◌∙◌, arith, ap, sym, subst, append-nil, length}
+use Rattle.std.proofs.Common.{◌≡◌, ◌∙◌, arith, ap, sym, append-nil, length}
 use Rattle.trails.proofs.Lists.{empty_of}
 use Rattle.std.proofs.lemmas.List.{length-take}
-use Rattle.dfs_core.specs.Standing.{IsSearch, IsOver}
-use Rattle.dfs_core.specs.Laid.{Shows, values, memory_of, left_of}
+use Rattle.dfs_core.specs.Laid.{values, memory_of, left_of}
 use Rattle.dfs_core.proofs.Refused.{on_err}
 use Rattle.dfs_core.proofs.Laying.{left_of-push}
 use Rattle.dfs_core.proofs.Showing.{shown_live, shown_over, shown_back, shown_leads_left, shown_left}
@@ -29,9 +28,7 @@ returns-in_default-pop-clause-met g c = λ first walk h.
     let e : now.stack.frames ≡ c.pop.new.self.items = c.in_default-pop.ensures.items
     ∙ append-nil c.pop.new.self.items in
     let none = e ∙ empty_of c.pop.new.self.items (omega (arith, c.in_default-pop.ensures.cases, c.pop.new.self.ok.0)) in
-    subst (λ fs. Shows (IsOver g.S.Space g.S.Key.PartialEq.eq) first walk
-    (record now { stack = record now.stack { frames = fs } })) e
-    (shown_over (c.turns.invariant.goes_on first walk h) none
+    rw (sym e) (shown_over (c.turns.invariant.goes_on first walk h) none
     (omega (arith, c.if-stack-len.false, c.len.ensures)))
 
 pub back-requires : goal.back-requires
@@ -41,24 +38,16 @@ back-requires g c =
     c.in-Some-pop.ensures.items
 
 pub leave-requires : goal.leave-requires
-leave-requires g c =
-    let r = c.requires in
-    shown_live (c.turns.invariant.goes_on r.first r.walk r.shown)
+leave-requires g c = let r = c.requires in shown_live (c.turns.invariant.goes_on r.first r.walk r.shown)
 
 pub turns-preserved : goal.turns-preserved
 turns-preserved g c = record {
   capacity = c.in_ok-leave.ensures.capacity ∙ c.turns.invariant.capacity;
-  goes_on = λ first walk h.
-      let memory = memory_of g.M.Memo c.leave.new.self in
-      subst (λ ss. Shows (IsSearch g.S.Space g.S.Key.PartialEq.eq) first walk (record {
-        space = c.back.new.self;
-        stack = record { frames = c.pop.new.self.items; steps = ss; top = c.in-Some-pop.frame.level };
-        memory = memory;
-      })) (sym c.truncate.ensures.items)
+  goes_on = λ first walk h. rw c.truncate.ensures.items
       (shown_left (c.turns.invariant.goes_on first walk h) c.pop.new.self.items c.in-Some-pop.frame
-      c.in-Some-pop.ensures.items
-      g.met.S.Key.Eq.laws c.back.new.self memory c.back.ensures (omega (arith, c.if-stack-len.false, c.len.ensures))
-      c.in_ok-leave.ensures.only_finished_go c.in_ok-leave.ensures.capacity);
+      c.in-Some-pop.ensures.items g.met.S.Key.Eq.laws c.back.new.self (memory_of g.M.Memo c.leave.new.self)
+      c.back.ensures (omega (arith, c.if-stack-len.false, c.len.ensures)) c.in_ok-leave.ensures.only_finished_go
+      c.in_ok-leave.ensures.capacity);
 }
 
 pub returns-in_err-leave-clause-err : goal.returns-in_err-leave-clause-err
@@ -68,10 +57,7 @@ returns-in_err-leave-clause-err g c = on_err c.from_residual.result _ (λ first 
 
 pub turns-smaller : goal.turns-smaller
 turns-smaller g c =
-    omega (
-      arith,
-      ap (λ fs. left_of fs c.turns.stack.top.begin) c.in-Some-pop.ensures.items,
-      left_of-push c.pop.new.self.items c.in-Some-pop.frame c.turns.stack.top.begin,
-      ap length c.truncate.ensures.items,
-      length-take c.turns.stack.top.begin c.turns.stack.steps.items,
-    )
+    let popped = ap (λ fs. left_of fs c.turns.stack.top.begin) c.in-Some-pop.ensures.items in
+    let left = left_of-push c.pop.new.self.items c.in-Some-pop.frame c.turns.stack.top.begin in
+    let cut = length-take c.turns.stack.top.begin c.turns.stack.steps.items in
+    omega (arith, popped, left, ap length c.truncate.ensures.items, cut)

@@ -1,6 +1,5 @@
 use Rattle.std.proofs.Common.{◌≡◌, ◌≢◌, ◌+◌, ◌∙◌, sym, refl, ⊎_elim}
 use Rattle.transposition.specs.declared.memo.Known.TheVariants.{New, Live, Finished}
-use Rattle.dfs_core.specs.Standing.{IsStepped}
 use Rattle.dfs_core.specs.Laid.{memory_of}
 use Rattle.dfs_core.proofs.Showing.{memory_same, shown_step, shown_win, shown_new, shown_passes}
 use Rattle.dfs_core.proofs.advance.try_step.Goals as goal
@@ -27,31 +26,16 @@ returns-in-New-clause-met g c = λ first walk h.
     new c.in-New.ensures.answer.0 c.in-New.ensures.answer.1
     (memory_same old new c.look.ensures.live c.in-New.ensures.finished c.look.ensures.capacity)
 
-pub returns-in-Live : goal.returns-in-Live
-returns-in-Live g c =
+pub returns-in-Live-clause-known : goal.returns-in-Live-clause-known
+returns-in-Live-clause-known g c = λ first walk h.
     let known : c.look.result ≢ New = λ e. ⊎_elim
     (λ a. let b : c.look.result ≡ Live = a in cc)
     (λ a. let b : c.look.result ≡ Finished = a in cc)
     c.in-Live.is in
-    record {
-      capacity = c.look.ensures.capacity;
-      frames = refl;
-      items = refl;
-      begin = refl;
-      tried = refl;
-      known = λ first walk h.
-          let stepped : IsStepped g.S.Space c.index-step.result.now c.go-undo.result c.args.space.now
-          c.go-undo.new.self = record {
-            undone = c.go-undo.ensures.undo;
-            state_is = c.go-undo.ensures.state;
-            same_play = c.go-undo.ensures.play;
-          } in
-          shown_passes h c.index-step.result.now c.requires.untried
-          (sym c.index-step.ensures) c.go-undo.result c.go-undo.new.self stepped
-          (sym c.is_won.ensures ∙ c.if-is_won.false) c.key-key.result c.key-key.ensures g.met.S.Key.Eq.laws
-          c.back-in-Live.new.self
-          (record { begin = c.args.stack.now.top.begin; next = c.args.stack.now.top.next + 1 })
-          c.look.result (memory_of g.M.Memo c.look.new.self) c.back-in-Live.ensures refl refl
-          c.look.ensures.answer known c.look.ensures.live c.look.ensures.finished c.look.ensures.capacity;
-      met = tt;
-    }
+    shown_passes h c.index-step.result.now c.requires.untried (sym c.index-step.ensures) c.go-undo.result
+    c.go-undo.new.self
+    (record { undone = c.go-undo.ensures.undo; state_is = c.go-undo.ensures.state; same_play = c.go-undo.ensures.play })
+    (sym c.is_won.ensures ∙ c.if-is_won.false) c.key-key.result c.key-key.ensures g.met.S.Key.Eq.laws
+    c.back-in-Live.new.self (record { begin = c.args.stack.now.top.begin; next = c.args.stack.now.top.next + 1 })
+    c.look.result (memory_of g.M.Memo c.look.new.self) c.back-in-Live.ensures refl refl
+    c.look.ensures.answer known c.look.ensures.live c.look.ensures.finished c.look.ensures.capacity

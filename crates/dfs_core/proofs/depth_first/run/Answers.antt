@@ -1,33 +1,17 @@
-use Rattle.std.proofs.Common.{◌≡◌, ℕ, ◌+◌, ◌≤◌, ◌∙◌, sym, ap, subst, [], ◌∷◌, ◌++◌, length-append, arith, Bool, true}
-use Rattle.std.proofs.Common.{false}
-use Rattle.std.specs.Bool.{OnTrue}
-use Rattle.dfs_core.specs.Standing.{problem_from, IsSpent, IsSearch}
+use Rattle.std.proofs.Common.{◌+◌, ◌∙◌, sym, ap, subst, [], ◌∷◌, ◌++◌, length-append, arith, true, false}
+use Rattle.dfs_core.specs.Standing.{problem_from, IsSearch}
 use Rattle.dfs_core.specs.Laid.{Shows, values, steps_of}
 use Rattle.dfs_core.proofs.Moves.{clean_none, follows_none, walk_none}
 use Rattle.dfs_core.proofs.Keeping.{fresh_none, fresh_one}
-use Rattle.dfs_core.proofs.Standings.{search_ends}
-use Rattle.dfs_core.proofs.Showing.{shown_started, shown_leads_back, shown_win_ends, new_trail, new_trail_fresh}
-use Rattle.dfs_core.proofs.Answering.{as_win, as_new, as_over, before_win, before_end, before_new, answered}
+use Rattle.dfs_core.proofs.Showing.{shown_started, shown_leads_back, shown_ends, shown_win_ends, before_new, new_trail}
+use Rattle.dfs_core.proofs.Showing.{new_trail_fresh}
+use Rattle.dfs_core.proofs.Answering.{as_win, as_new, as_over, before_win, before_end, answered}
 use Rattle.dfs_core.proofs.depth_first.run.Goals as goal
 use Rattle.dfs_core.specs.Search.{IsFreshIn}
 
-spent_none : (old new limit : ℕ) (b : Bool) → b ≡ false → IsSpent old new limit b → (new ≡ old) × (new ≡ limit)
-spent_none old new limit true e h = cc
-spent_none old new limit false e h = h
-
-spent_one : (old new limit : ℕ) (b : Bool) → b ≡ true → IsSpent old new limit b → (new ≡ old + 1) × (new ≤ limit)
-spent_one old new limit true e h = h
-spent_one old new limit false e h = cc
-
-on_true_at : (A : Type 0) (b : Bool) → b ≡ true → OnTrue b A → A
-on_true_at A true e h = h
-on_true_at A false e h = cc
-
 pub returns-then-not-branch-clause-answer : goal.returns-then-not-branch-clause-answer
 returns-then-not-branch-clause-answer g c =
-    let budget = c.expand.new.budget in
-    let s = spent_none c.args.budget.now.spent budget.spent budget.limit c.in_ok-expand.field-0 c.if-not-branch.true
-    c.in_ok-expand.ensures.spent in
+    let s = rw c.if-not-branch.true at c.in_ok-expand.ensures.spent in
     let about = problem_from g.S.Space g.S.Key.PartialEq.eq c.args.space.now in
     let capacity = g.M.Memo.capacity c.args.memo.now in
     record {
@@ -35,15 +19,14 @@ returns-then-not-branch-clause-answer g c =
       is_walk = walk_none about;
       fresh = fresh_none about capacity;
       count = omega (arith, s.0);
-      ends = (s.1, [], clean_none about c.requires.not_won, follows_none about, fresh_one about capacity []);
+      spent_all = λ e. s.1;
+      ends = ([], clean_none about c.requires.not_won, follows_none about, fresh_one about capacity []);
     }
 
 pub boards-init : goal.boards-init
 boards-init g c =
-    let x = on_true_at _ c.in_ok-expand.field-0 c.if-not-branch.false c.in_ok-expand.ensures.expanded in
-    let budget = c.expand.new.budget in
-    let s = spent_one c.args.budget.now.spent budget.spent budget.limit c.in_ok-expand.field-0 c.if-not-branch.false
-    c.in_ok-expand.ensures.spent in
+    let x = rw c.if-not-branch.false at c.in_ok-expand.ensures.expanded in
+    let s = rw c.if-not-branch.false at c.in_ok-expand.ensures.spent in
     let items = (g.S.Space.play c.args.space.now).steps (g.S.Space.state c.args.space.now) in
     let started = record (values g.M.Memo c.args.space.now c.args.stack.now c.expand.new.memo) {
       stack = record {
@@ -68,87 +51,69 @@ boards-init g c =
 
 pub returns-in_err-step-clause-leads : goal.returns-in_err-step-clause-leads
 returns-in_err-step-clause-leads g c =
-    let i = c.boards.invariant in
-    c.in_err-step.ensures.err c.args.space.now i.walk i.shown
+    let i = c.boards.invariant in c.in_err-step.ensures.err c.args.space.now i.walk i.shown
 
 pub returns-in_err-trail-in-Won-clause-leads : goal.returns-in_err-trail-in-Won-clause-leads
 returns-in_err-trail-in-Won-clause-leads g c =
-    let i = c.boards.invariant in
-    shown_leads_back (before_win (as_win g.S.Space g.S.Key.PartialEq.eq c.in-Won.is
-    (c.in_ok-step.ensures.met c.args.space.now i.walk i.shown)))
+    let met = c.in_ok-step.ensures.met c.args.space.now c.boards.invariant.walk c.boards.invariant.shown in
+    shown_leads_back (before_win (as_win g.S.Space g.S.Key.PartialEq.eq c.in-Won.is met))
 
 pub returns-in-Won-clause-leads : goal.returns-in-Won-clause-leads
 returns-in-Won-clause-leads g c =
-    let i = c.boards.invariant in
-    shown_leads_back (before_win (as_win g.S.Space g.S.Key.PartialEq.eq c.in-Won.is
-    (c.in_ok-step.ensures.met c.args.space.now i.walk i.shown)))
+    let met = c.in_ok-step.ensures.met c.args.space.now c.boards.invariant.walk c.boards.invariant.shown in
+    shown_leads_back (before_win (as_win g.S.Space g.S.Key.PartialEq.eq c.in-Won.is met))
 
 pub returns-in-Won-clause-answer : goal.returns-in-Won-clause-answer
 returns-in-Won-clause-answer g c =
     let i = c.boards.invariant in
-    let w = as_win g.S.Space g.S.Key.PartialEq.eq c.in-Won.is
-    (c.in_ok-step.ensures.met c.args.space.now i.walk i.shown) in
+    let met = c.in_ok-step.ensures.met c.args.space.now i.walk i.shown in
+    let w = as_win g.S.Space g.S.Key.PartialEq.eq c.in-Won.is met in
     let trail = c.in_ok-trail-in-Won.ensures ∙ ap (λ fs. steps_of fs ++ c.in-Won.step ∷ []) c.deref.ensures.value in
-    answered (before_win w) (c.in_ok-step.ensures.capacity ∙ i.capacity) i.count
+    answered (before_win w) (c.in_ok-step.ensures.capacity ∙ i.capacity) i.count (λ e. cc)
     (shown_win_ends c.in-Won.step w _ trail)
 
 pub step_on-requires : goal.step_on-requires
 step_on-requires g c =
     let i = c.boards.invariant in
-    record {
-      first = c.args.space.now;
-      walk = i.walk;
-      shown = as_new g.S.Space g.S.Key.PartialEq.eq c.in-New.is
-          (c.in_ok-step.ensures.met c.args.space.now i.walk i.shown);
-    }
+    let met = c.in_ok-step.ensures.met c.args.space.now i.walk i.shown in
+    record { first = c.args.space.now; walk = i.walk; shown = as_new g.S.Space g.S.Key.PartialEq.eq c.in-New.is met }
 
 pub returns-in_err-step_on-in-New-clause-leads : goal.returns-in_err-step_on-in-New-clause-leads
 returns-in_err-step_on-in-New-clause-leads g c =
     let i = c.boards.invariant in
-    c.step_on.ensures.leads c.args.space.now i.walk
-    (as_new g.S.Space g.S.Key.PartialEq.eq c.in-New.is
-    (c.in_ok-step.ensures.met c.args.space.now i.walk i.shown))
+    let met = c.in_ok-step.ensures.met c.args.space.now i.walk i.shown in
+    c.step_on.ensures.leads c.args.space.now i.walk (as_new g.S.Space g.S.Key.PartialEq.eq c.in-New.is met)
 
 pub returns-then-not-branch-2-clause-leads : goal.returns-then-not-branch-2-clause-leads
 returns-then-not-branch-2-clause-leads g c =
     let i = c.boards.invariant in
-    c.step_on.ensures.leads c.args.space.now i.walk
-    (as_new g.S.Space g.S.Key.PartialEq.eq c.in-New.is
-    (c.in_ok-step.ensures.met c.args.space.now i.walk i.shown))
+    let met = c.in_ok-step.ensures.met c.args.space.now i.walk i.shown in
+    c.step_on.ensures.leads c.args.space.now i.walk (as_new g.S.Space g.S.Key.PartialEq.eq c.in-New.is met)
 
 pub returns-then-not-branch-2-clause-answer : goal.returns-then-not-branch-2-clause-answer
 returns-then-not-branch-2-clause-answer g c =
     let i = c.boards.invariant in
     let about = problem_from g.S.Space g.S.Key.PartialEq.eq c.args.space.now in
-    let n = as_new g.S.Space g.S.Key.PartialEq.eq c.in-New.is
-    (c.in_ok-step.ensures.met c.args.space.now i.walk i.shown) in
-    let budget = c.step_on.new.budget in
-    let s = spent_none c.boards.budget.spent budget.spent budget.limit c.in_ok-step_on-in-New.field-0
-    c.if-not-branch-2.true c.in_ok-step_on-in-New.ensures.spent in
+    let met = c.in_ok-step.ensures.met c.args.space.now i.walk i.shown in
+    let n = as_new g.S.Space g.S.Key.PartialEq.eq c.in-New.is met in
+    let s = rw c.if-not-branch-2.true at c.in_ok-step_on-in-New.ensures.spent in
     let z = steps_of c.advance.new.stack.frames.items ++ c.in-New.met.step ∷ [] in
     let follows = new_trail g.met.S.Key.Eq.laws n in
     let capacity = c.in_ok-step.ensures.capacity ∙ i.capacity in
-    answered (before_new n) capacity (i.count ∙ sym s.0) (
-      s.1,
-      z,
-      follows.0,
-      follows.1,
-      subst (λ k. IsFreshIn about k (i.walk ++ z ∷ [])) capacity
-          (new_trail_fresh g.met.S.Key.Eq.laws n),
-    )
+    let fresh = subst (λ k. IsFreshIn about k (i.walk ++ z ∷ [])) capacity (new_trail_fresh g.met.S.Key.Eq.laws n) in
+    answered (before_new n) capacity (i.count ∙ sym s.0) (λ e. s.1) (z, follows.0, follows.1, fresh)
 
 pub boards-preserved : goal.boards-preserved
 boards-preserved g c =
     let i = c.boards.invariant in
-    let budget = c.step_on.new.budget in
-    let s = spent_one c.boards.budget.spent budget.spent budget.limit c.in_ok-step_on-in-New.field-0
-    c.if-not-branch-2.false c.in_ok-step_on-in-New.ensures.spent in
+    let s = rw c.if-not-branch-2.false at c.in_ok-step_on-in-New.ensures.spent in
     let z = steps_of c.advance.new.stack.frames.items ++ c.in-New.met.step ∷ [] in
+    let met = c.in_ok-step.ensures.met c.args.space.now i.walk i.shown in
+    let expands = rw c.if-not-branch-2.false at c.in_ok-step_on-in-New.ensures.expands in
     record {
       walk = i.walk ++ z ∷ [];
-      shown = on_true_at _ c.in_ok-step_on-in-New.field-0 c.if-not-branch-2.false c.in_ok-step_on-in-New.ensures.expands
-          c.args.space.now i.walk (as_new g.S.Space g.S.Key.PartialEq.eq c.in-New.is
-          (c.in_ok-step.ensures.met c.args.space.now i.walk i.shown));
+      shown = expands c.args.space.now i.walk
+          (as_new g.S.Space g.S.Key.PartialEq.eq c.in-New.is met);
       count = omega (arith, i.count, s.0, length-append i.walk (z ∷ []));
       limit = c.in_ok-step_on-in-New.ensures.limit ∙ i.limit;
       capacity = c.in_ok-step_on-in-New.ensures.capacity ∙ (c.in_ok-step.ensures.capacity ∙ i.capacity);
@@ -156,21 +121,17 @@ boards-preserved g c =
 
 pub returns-in-Exhausted-clause-leads : goal.returns-in-Exhausted-clause-leads
 returns-in-Exhausted-clause-leads g c =
-    let i = c.boards.invariant in
-    shown_leads_back (before_end (as_over g.S.Space g.S.Key.PartialEq.eq c.in-Exhausted.is
-    (c.in_ok-step.ensures.met c.args.space.now i.walk i.shown)))
+    let met = c.in_ok-step.ensures.met c.args.space.now c.boards.invariant.walk c.boards.invariant.shown in
+    shown_leads_back (before_end (as_over g.S.Space g.S.Key.PartialEq.eq c.in-Exhausted.is met))
 
 pub returns-in-Exhausted-clause-answer : goal.returns-in-Exhausted-clause-answer
 returns-in-Exhausted-clause-answer g c =
     let i = c.boards.invariant in
-    let o = as_over g.S.Space g.S.Key.PartialEq.eq c.in-Exhausted.is
-    (c.in_ok-step.ensures.met c.args.space.now i.walk i.shown) in
-    answered (before_end o) (c.in_ok-step.ensures.capacity ∙ i.capacity) i.count
-    (search_ends o.is)
+    let met = c.in_ok-step.ensures.met c.args.space.now i.walk i.shown in
+    let o = as_over g.S.Space g.S.Key.PartialEq.eq c.in-Exhausted.is met in
+    answered (before_end o) (c.in_ok-step.ensures.capacity ∙ i.capacity) i.count (λ e. cc) (shown_ends o)
 
 pub boards-smaller : goal.boards-smaller
 boards-smaller g c =
-    let budget = c.step_on.new.budget in
-    let s = spent_one c.boards.budget.spent budget.spent budget.limit c.in_ok-step_on-in-New.field-0
-    c.if-not-branch-2.false c.in_ok-step_on-in-New.ensures.spent in
+    let s = rw c.if-not-branch-2.false at c.in_ok-step_on-in-New.ensures.spent in
     omega (arith, s.0, s.1, c.in_ok-step_on-in-New.ensures.limit)

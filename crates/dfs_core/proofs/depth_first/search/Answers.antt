@@ -1,7 +1,6 @@
-use Rattle.std.proofs.Common.{◌≡◌, ◌∙◌, refl, sym, subst, [], arith, true, IsSome}
+use Rattle.std.proofs.Common.{◌∙◌, refl, sym, subst, [], arith, true, IsSome}
 use Rattle.std.proofs.lemmas.Result.{IfOk-weaker}
-use Rattle.trails.specs.Trails.{end, IsTrail}
-use Rattle.dfs_core.specs.Search.{game, FollowsIn}
+use Rattle.dfs_core.specs.Search.{game}
 use Rattle.dfs_core.specs.Standing.{problem_from}
 use Rattle.dfs_core.specs.Answer.{EndsWith}
 use Rattle.dfs_core.proofs.Moves.{follows_none, walk_none}
@@ -18,26 +17,21 @@ returns-then-is_won-clause-answer g c =
       is_walk = walk_none about;
       fresh = fresh_none about (g.M.Memo.capacity c.args.memo);
       count = omega arith;
-      ends = subst (λ ts. FollowsIn about [] ts × IsTrail (game about) about.start ts
-          × (about.play.won (end (game about) about.start ts) ≡ true))
-          (sym (c.from_vec.ensures ∙ c.new-steps.ensures.items))
+      spent_all = λ e. cc;
+      ends = rw (c.from_vec.ensures ∙ c.new-steps.ensures.items)
           (follows_none about, tt, sym c.is_won.ensures ∙ c.if-is_won.true);
     }
 
 pub rewind-requires : goal.rewind-requires
-rewind-requires g c =
-    subst (λ o. IsSome o) (sym c.run-found.ensures.leads) refl
+rewind-requires g c = subst (λ o. IsSome o) (sym c.run-found.ensures.leads) refl
 
 pub returns-clause-back : goal.returns-clause-back
-returns-clause-back g c =
-    some_same (sym c.rewind.ensures ∙ c.run-found.ensures.leads)
+returns-clause-back g c = some_same (sym c.rewind.ensures ∙ c.run-found.ensures.leads)
 
 pub returns-clause-no_win : goal.returns-clause-no_win
 returns-clause-no_win g c =
     let about = problem_from g.S.Space g.S.Key.PartialEq.eq c.args.space.now in
-    let budget = c.run-found.new.budget in
     IfOk-weaker c.run-found.result _ _ (λ found a e complete n.
     none_wins (game about) (g.S.Space.wins c.args.space.now) about.start a.walk complete a.is_walk
-    (subst (EndsWith (game about) about.start (g.M.Memo.capacity c.args.memo) a.walk budget.spent budget.limit) e
-    a.ends) n)
+    (subst (EndsWith (game about) about.start (g.M.Memo.capacity c.args.memo) a.walk) e a.ends) n)
     c.run-found.ensures.answer

@@ -11,12 +11,10 @@ on_true true f h = f h
 on_true false f h = h
 
 pub descend-requires-clause-room : goal.descend-requires-clause-room
-descend-requires-clause-room g c =
-    new_room g.met.S.Key.Eq.laws c.requires.shown
+descend-requires-clause-room g c = new_room g.met.S.Key.Eq.laws c.requires.shown
 
 pub descend-requires-clause-back : goal.descend-requires-clause-back
-descend-requires-clause-back g c =
-    new_undo g.met.S.Key.Eq.laws c.requires.shown
+descend-requires-clause-back g c = new_undo g.met.S.Key.Eq.laws c.requires.shown
 
 pub returns-in_err-descend-clause-leads : goal.returns-in_err-descend-clause-leads
 returns-in_err-descend-clause-leads g c = λ first walk h.
