@@ -1,182 +1,291 @@
--- Where the queue of stock and waste is cut, as stock moves go on.
-use Rattle.std.proofs.Common.{◌≡◌, ◌⊎◌, inl, inr, ℕ, ◌+◌, ◌-◌, ◌<◌, ◌≤◌, Bool, true, false, List, [], ◌++◌, length, reverse, take, drop, refl, ap, ap₂, sym, ◌∙◌, arith, length-append, length-take, take-append-drop, take_all}
-use Rattle.std.specs.Prelude.{Some, None, IsTrue, nat_le, if◌then◌else◌}
-use Rattle.std.proofs.Math.Seq.{take-append_seam, drop-append_seam, take-append-add, drop-append-add, drop-length}
-use Rattle.std.proofs.lemmas.List.{reverse-append, reverse-reverse, length-reverse, take-append-le, drop-append-le, take_at, drop_at}
-use Rattle.std.proofs.lemmas.Bool.{le-leb, leb-true}
-use Rattle.card_piles.specs.declared.Card.{Card}
-use Rattle.game_rules.specs.declared.RuleParts.{RuleParts}
-use Rattle.game_rules.specs.Rules.{deals_to_waste, is_unlimited}
-use Rattle.game_rules.specs.Belonging.{HasFewCards}
-use Rattle.game_rules.specs.Board.{Board, top_part, below_top}
-use Rattle.game_rules.specs.StockMoves.{IsNextByStock, queue}
-use Rattle.game_rules.proofs.Limits.{both}
-use Rattle.game_rules.proofs.ListFacts.{and_both}
-use Rattle.game_rules.proofs.StockMoves.{with_stock, Dealt, Redealt, next_cases}
-use Rattle.packed_state.specs.declared.Packed.{Packed}
+-- Many stock moves at once, link by link.
+use Rattle.std.proofs.Common.{◌≡◌, ◌≢◌, inl, inr, ℕ, ◌+◌, ◌-◌, ◌<◌, ◌≤◌, Bool, true, false, ◌++◌, length, reverse}
+use Rattle.std.proofs.Common.{refl, ap, sym, ◌∙◌, subst, arith}
+use Rattle.std.specs.Prelude.{Option, Some, None, IsTrue, nat_le, nat_lt, if◌then◌else◌}
+use Rattle.std.proofs.lemmas.Bool.{cases_lt}
+use Rattle.std.proofs.lemmas.Bool.Decides.{nat_tests}
+use Rattle.card_links.specs.Chains.{size_at}
+use Rattle.card_links.proofs.Each.{each}
+use Rattle.card_links.proofs.Cutting.{each_used, each_more, each_less, each_beyond}
+use Rattle.card_links.proofs.Sums.{two_below}
+use Rattle.game_rules.specs.Board.{top_part, below_top}
+use Rattle.game_rules.specs.StockMoves.{queue}
+use Rattle.game_rules.proofs.StockMoves.{with_stock}
 use Rattle.packed_state.specs.declared.stock.Border.{Border}
 use Rattle.packed_state.specs.declared.stock.StockUndo.{StockUndo}
-use Rattle.packed_state.specs.StockRuns.{cut_at, can_be_cut, before_run}
-use Rattle.packed_state.proofs.Seams.{below-top, length-top}
+use Rattle.packed_state.specs.Packed.{Linked, IsLinked, cards_at, board_of}
+use Rattle.packed_state.specs.Turning.{turned, with_redeals}
+use Rattle.packed_state.specs.StockRuns.{moved_to, cut_at, can_be_cut, before_run}
+use Rattle.packed_state.proofs.Boards.{same_boards}
+use Rattle.packed_state.proofs.Tops.{size_is}
+use Rattle.packed_state.proofs.ListsTurned.{with_links, waste_list, stock_list, turned_left, turned_there, turned_other}
+use Rattle.packed_state.proofs.ListsTurned.{piles_stay, cells_stay, reserve_stays, heights_stay, slots_stay}
+use Rattle.packed_state.proofs.Queues.{length-queue, cut-here, cut-down, cut-up}
+use Rattle.packed_state.proofs.Queues.{cut_at as board_cut}
 
-pub length-queue : (board : Board) → length (queue board) ≡ length board.stock + length board.waste
-length-queue board = omega (arith, length-append board.stock (reverse board.waste), length-reverse board.waste)
+-- a board with as many cards as the tables have room for
+pub few_in_queue : (l : Linked) → IsLinked l → size_at l.links 89 + size_at l.links 88 ≤ 208
+few_in_queue l h =
+    let long = h.chained.sizes_length in let all = h.chained.all in let fits = h.chained.fits in
+    let two = two_below l.links.sizes 89 88 (omega arith) (omega arith) (λ e. absurd (omega arith)) in
+    omega arith
 
--- a cut leaves the queue as it is
-pub queue-cut : (border : Border) (board : Board) → queue (cut_at border board) ≡ queue board
-queue-cut border board =
-    ap (λ (xs : List Card). take border.stock (queue board) ++ xs) (reverse-reverse (drop border.stock (queue board)))
-    ∙ take-append-drop border.stock (queue board)
+pub queue_long : (l : Linked) → length (queue (board_of l)) ≡ size_at l.links 89 + size_at l.links 88
+queue_long l =
+    let q = length-queue (board_of l) in let s = size_is l 89 in let w = size_is l 88 in
+    omega arith
 
--- a board is cut where it is cut
-pub cut-here : (board : Board) → cut_at (record { stock = length board.stock; redeals_left = board.redeals_left }) board ≡ board
-cut-here board =
-    ap₂ (λ (stock waste : List Card). with_stock board stock waste board.redeals_left)
-    (take-append_seam board.stock (reverse board.waste))
-    (ap reverse (drop-append_seam board.stock (reverse board.waste)) ∙ reverse-reverse board.waste)
+-- where the queue is cut
+abbrev pub here : Linked → Border
+here l = record { stock = size_at l.links 89; redeals_left = l.redeals_left }
 
--- a cut board that is cut at another border
-pub cut-cut : (a b : Border) (board : Board) → cut_at b (cut_at a board) ≡ cut_at b board
-cut-cut a b board =
-    ap (λ (row : List Card). with_stock board (take b.stock row) (reverse (drop b.stock row)) b.redeals_left) (queue-cut a board)
+pub here_cut : (l : Linked) → board_cut (here l) (board_of l) ≡ board_of l
+here_cut l =
+    ap (λ n. board_cut (let b : Border = record { stock = n; redeals_left = l.redeals_left } in b) (board_of l))
+    (size_is l 89)
+    ∙ cut-here (board_of l)
 
--- a deal moves the border down by the draw
+-- the two ways to a cut
+first : (b : Bool) (x y : Linked) → b ≡ true → (if b then x else y) ≡ x
+first true x y e = refl
+first false x y e = cc
 
-take-dealt : (n d : ℕ) (row : List Card) → n ≤ length row → below_top d (take n row) ≡ take (n - d) row
-take-dealt n d row within =
-    let long : length (take n row) ≡ n = omega (arith, length-take n row, within) in
-    ap (λ (k : ℕ). take (k - d) (take n row)) long
-    ∙ sym (take-append-le (n - d) (take n row) (drop n row) (omega (arith, long)))
-    ∙ ap (take (n - d)) (take-append-drop n row)
+second : (b : Bool) (x y : Linked) → b ≡ false → (if b then x else y) ≡ y
+second true x y e = cc
+second false x y e = refl
 
-drop-dealt : (n d : ℕ) (row : List Card) → n ≤ length row
-    → reverse (drop n row) ++ reverse (top_part d (take n row)) ≡ reverse (drop (n - d) row)
-drop-dealt n d row within =
-    let long : length (take n row) ≡ n = omega (arith, length-take n row, within) in
-    ap (λ (k : ℕ). reverse (drop n row) ++ reverse (drop (k - d) (take n row))) long
-    ∙ sym (reverse-append (drop (n - d) (take n row)) (drop n row))
-    ∙ ap reverse (sym (drop-append-le (n - d) (take n row) (drop n row) (omega (arith, long))))
-    ∙ ap (λ (xs : List Card). reverse (drop (n - d) xs)) (take-append-drop n row)
+pub down_to : (l : Linked) (n : ℕ) → n < size_at l.links 89
+    → moved_to l n ≡ turned l 89 88 (size_at l.links 89 - n)
+down_to l n below = first (nat_lt n (size_at l.links 89)) _ _ (grind (arith, nat_tests))
 
-cut-dealt : (rules : RuleParts) (a b : Border) (board next : Board) → a.stock ≤ length (queue board)
-    → b ≡ record { stock = a.stock - rules.draw; redeals_left = a.redeals_left }
-    → Dealt rules (cut_at a board) next → cut_at b board ≡ next
-cut-dealt rules a b board next within is h =
-    ap (λ (x : Border). cut_at x board) is
-    ∙ sym (ap₂ (λ (stock waste : List Card). with_stock board stock waste a.redeals_left)
-    (take-dealt a.stock rules.draw (queue board) within) (drop-dealt a.stock rules.draw (queue board) within))
-    ∙ sym h.is_after
+pub up_to : (l : Linked) (n : ℕ) → size_at l.links 89 ≤ n
+    → moved_to l n ≡ turned l 88 89 (n - size_at l.links 89)
+up_to l n above = second (nat_lt n (size_at l.links 89)) _ _ (grind (arith, nat_tests))
 
--- a redeal moves it to the end of the queue
+chosen : {X : Type 0} (b : Bool) (x : X) → IsTrue b → (if b then Some x else None) ≡ Some x
+chosen true x h = refl
+chosen false x h = cc
 
-some-taken : (n : ℕ) (row : List Card) → 0 < length (take n row) → 0 < n
-some-taken n row some = omega (arith, length-take n row, some)
+fits : (a b : ℕ) → a ≤ b → IsTrue (nat_le a b)
+fits a b h = grind (arith, nat_tests)
 
-none-taken : (n : ℕ) (row : List Card) → n ≤ length row → take n row ≡ [] → n ≡ 0
-none-taken n row within none = omega (arith, length-take n row, within, ap length none)
+at_most : (a b : ℕ) → IsTrue (nat_le a b) → a ≤ b
+at_most a b h = grind (arith, nat_tests)
 
-cut-redealt : (rules : RuleParts) (a b : Border) (board next : Board) → a.stock ≡ 0
-    → b ≡ record { stock = length (queue board); redeals_left = if is_unlimited rules.redeals then a.redeals_left else a.redeals_left - 1 }
-    → Redealt rules (cut_at a board) next → cut_at b board ≡ next
-cut-redealt rules a b board next none is h =
-    let row : List Card = queue board in
-    let left : ℕ = if is_unlimited rules.redeals then a.redeals_left else a.redeals_left - 1 in
-    let whole : reverse (reverse (drop a.stock row)) ≡ row = reverse-reverse (drop a.stock row) ∙ ap (λ (k : ℕ). drop k row) none in
-    let all : take (length row) row ≡ row = take_all (length row) row (omega arith) in
-    let nothing : drop (length row) row ≡ [] = drop-length row in
-    ap (λ (x : Border). cut_at x board) is
-    ∙ ap₂ (λ (stock waste : List Card). with_stock board stock (reverse waste) left) (all ∙ sym whole) nothing
-    ∙ sym h.is_after
+pub can_cut : (l : Linked) (border : Border) → border.stock ≤ size_at l.links 89 + size_at l.links 88
+    → IsTrue (can_be_cut border l)
+can_cut l border within = fits _ _ within
 
--- the border after one stock move more
-pub cut-next : (rules : RuleParts) (a b : Border) (board next : Board) (cards : ℕ) → IsTrue (deals_to_waste rules.target)
-    → a.stock ≤ length (queue board) → cards ≡ length (queue board) → IsNextByStock rules (cut_at a board) next
-    → (0 < a.stock → b ≡ record { stock = a.stock - rules.draw; redeals_left = a.redeals_left })
-    → (a.stock ≡ 0 → b ≡ record { stock = cards; redeals_left = if is_unlimited rules.redeals then a.redeals_left else a.redeals_left - 1 })
-    → (cut_at b board ≡ next) × (b.stock ≤ length (queue board))
-cut-next rules a b board next cards to_waste within whole h deals redeals =
-    elim (next_cases rules (cut_at a board) next to_waste h) [
-      | inl dealt ↦
-          let is = deals (some-taken a.stock (queue board) dealt.some) in
-          (cut-dealt rules a b board next within is dealt, omega (arith, ap (λ (x : Border). x.stock) is, within))
-      | inr redealt ↦
-          let none = none-taken a.stock (queue board) within redealt.none in
-          let is = redeals none in
-          let all = ap (λ (n : ℕ). let x : Border = record { stock = n; redeals_left = if is_unlimited rules.redeals then a.redeals_left else a.redeals_left - 1 } in x) whole in
-          (cut-redealt rules a b board next none (is ∙ all) redealt, omega (arith, ap (λ (x : Border). x.stock) is, whole))
-    ]
+-- the redeals that are left change no link
+redealt : (m : Linked) (b : Border) (r : ℕ) → cut_at b (with_redeals m r) ≡ cut_at b m
+redealt m b r = elim (cases_lt b.stock (size_at m.links 89)) [
+  | inl below ↦
+      ap (λ x. with_redeals x b.redeals_left) (down_to (with_redeals m r) b.stock below)
+      ∙ sym (ap (λ x. with_redeals x b.redeals_left) (down_to m b.stock below))
+  | inr above ↦
+      ap (λ x. with_redeals x b.redeals_left) (up_to (with_redeals m r) b.stock above)
+      ∙ sym (ap (λ x. with_redeals x b.redeals_left) (up_to m b.stock above))
+]
 
--- what the code does to cut a board
+same_if : (a b : Bool) (x y : Linked) → a ≡ b → (IsTrue b → x ≡ y)
+    → (let r : Option Linked = (if a then Some x else None) in r) ≡ (if b then Some y else None)
+same_if true true x y e f = ap (λ m. let r : Option Linked = Some m in r) (f refl)
+same_if true false x y e f = cc
+same_if false true x y e f = cc
+same_if false false x y e f = refl
 
-pub can-cut : (border : Border) (board : Board) → IsTrue (can_be_cut border board)
-    → (border.stock ≤ length (queue board)) × (length (queue board) ≤ 104)
-can-cut border board h =
-    let parts = both (nat_le border.stock (length (queue board))) (nat_le (length (queue board)) 104) h in
-    (leb-true border.stock (length (queue board)) parts.0, leb-true (length (queue board)) 104 parts.1)
+module _ (l : Linked) (h : IsLinked l) where
+  down : ◌≢◌ {A = ℕ} 89 88
+  down e = absurd (omega arith)
 
-pub cut-can : (border : Border) (board : Board) → border.stock ≤ length (queue board) → length (queue board) ≤ 104
-    → IsTrue (can_be_cut border board)
-cut-can border board fits few =
-    and_both (nat_le border.stock (length (queue board))) (nat_le (length (queue board)) 104)
-    (le-leb border.stock (length (queue board)) fits) (le-leb (length (queue board)) 104 few)
+  up : ◌≢◌ {A = ℕ} 88 89
+  up e = absurd (omega arith)
 
--- cards of the stock go to the waste
-pub cut-down : (border : Border) (board : Board) (d : ℕ) → border.stock ≤ length board.stock → d ≡ length board.stock - border.stock
-    → with_stock board (below_top d board.stock) (board.waste ++ reverse (top_part d board.stock)) border.redeals_left ≡ cut_at border board
-cut-down border board d below is =
-    let n : ℕ = border.stock in
-    let left : length board.stock - d ≡ n = omega (arith, is, below) in
-    let turned : reverse (drop n (queue board)) ≡ board.waste ++ reverse (drop n board.stock) =
-    ap reverse (drop-append-le n board.stock (reverse board.waste) below)
-    ∙ reverse-append (drop n board.stock) (reverse board.waste)
-    ∙ ap (λ (xs : List Card). xs ++ reverse (drop n board.stock)) (reverse-reverse board.waste) in
-    ap (λ (k : ℕ). with_stock board (take k board.stock) (board.waste ++ reverse (drop k board.stock)) border.redeals_left) left
-    ∙ ap₂ (λ (stock waste : List Card). with_stock board stock waste border.redeals_left)
-    (sym (take-append-le n board.stock (reverse board.waste) below)) (sym turned)
+  -- the board after cards went from the stock to the waste
+  waste_board : (d r : ℕ) → d ≤ size_at l.links 89 → board_of (with_redeals (turned l 89 88 d) r)
+      ≡ with_stock (board_of l) (below_top d (cards_at l 89)) (cards_at l 88 ++ reverse (top_part d (cards_at l 89))) r
+  waste_board d r enough =
+      same_boards _ _ _ _ _ _ _ _ _ _ _ _ _ _ r _ _
+      (piles_stay l h 89 88 d (stock_list l) (waste_list l) down enough)
+      (cells_stay l h 89 88 d (stock_list l) (waste_list l) down enough)
+      (reserve_stays l h 89 88 d (stock_list l) (waste_list l) down enough)
+      (turned_left l h 89 88 d (stock_list l) (waste_list l) down enough)
+      (turned_there l h 89 88 d (stock_list l) (waste_list l) down enough)
+      (heights_stay l h 89 88 d (stock_list l) (waste_list l) down enough
+      (λ i li q. absurd (omega arith)) (λ i li q. absurd (omega arith)))
+      (turned_other l h 89 88 d (stock_list l) (waste_list l) down enough 106 (omega arith)
+      (λ q. absurd (omega arith)) (λ q. absurd (omega arith)))
+      (slots_stay l h 89 88 d (stock_list l) (waste_list l) down enough)
 
--- cards of the waste go back to the stock
-pub cut-up : (border : Border) (board : Board) (d : ℕ) → length board.stock ≤ border.stock → border.stock ≤ length (queue board)
-    → d ≡ border.stock - length board.stock
-    → with_stock board (board.stock ++ reverse (top_part d board.waste)) (below_top d board.waste) border.redeals_left ≡ cut_at border board
-cut-up border board d above fits is =
-    let n : ℕ = border.stock in
-    let top : List Card = top_part d board.waste in
-    let rest : List Card = below_top d board.waste in
-    let whole : n ≡ length board.stock + d = omega (arith, is, above) in
-    let few : d ≤ length board.waste = omega (arith, is, above, fits, length-queue board) in
-    let long : length (reverse top) ≡ d = omega (arith, length-reverse top, length-top d board.waste, few) in
-    let parted : reverse board.waste ≡ reverse top ++ reverse rest =
-    ap reverse (sym (below-top d board.waste)) ∙ reverse-append rest top in
-    let stock : take n (queue board) ≡ board.stock ++ reverse top =
-    ap (λ (k : ℕ). take k (queue board)) whole
-    ∙ take-append-add board.stock (reverse board.waste) d
-    ∙ ap (λ (xs : List Card). board.stock ++ take d xs) parted
-    ∙ ap (λ (xs : List Card). board.stock ++ xs) (take_at (reverse top) (reverse rest) d long) in
-    let waste : reverse (drop n (queue board)) ≡ rest =
-    ap (λ (k : ℕ). reverse (drop k (queue board))) whole
-    ∙ ap reverse (drop-append-add board.stock (reverse board.waste) d)
-    ∙ ap (λ (xs : List Card). reverse (drop d xs)) parted
-    ∙ ap reverse (drop_at (reverse top) (reverse rest) d long)
-    ∙ reverse-reverse rest in
-    ap₂ (λ (s w : List Card). with_stock board s w border.redeals_left) (sym stock) (sym waste)
+  -- and after cards went from the waste to the stock
+  stock_board : (d r : ℕ) → d ≤ size_at l.links 88 → board_of (with_redeals (turned l 88 89 d) r)
+      ≡ with_stock (board_of l) (cards_at l 89 ++ reverse (top_part d (cards_at l 88))) (below_top d (cards_at l 88)) r
+  stock_board d r enough =
+      same_boards _ _ _ _ _ _ _ _ _ _ _ _ _ _ r _ _
+      (piles_stay l h 88 89 d (waste_list l) (stock_list l) up enough)
+      (cells_stay l h 88 89 d (waste_list l) (stock_list l) up enough)
+      (reserve_stays l h 88 89 d (waste_list l) (stock_list l) up enough)
+      (turned_there l h 88 89 d (waste_list l) (stock_list l) up enough)
+      (turned_left l h 88 89 d (waste_list l) (stock_list l) up enough)
+      (heights_stay l h 88 89 d (waste_list l) (stock_list l) up enough
+      (λ i li q. absurd (omega arith)) (λ i li q. absurd (omega arith)))
+      (turned_other l h 88 89 d (waste_list l) (stock_list l) up enough 106 (omega arith)
+      (λ q. absurd (omega arith)) (λ q. absurd (omega arith)))
+      (slots_stay l h 88 89 d (waste_list l) (stock_list l) up enough)
 
--- the notes of stock moves and the packed board after them determine the one before them
-chosen : {A : Type 0} (b : Bool) (x y : A) → IsTrue b → (if b then x else y) ≡ x
-chosen true x y h = refl
-chosen false x y h = cc
+  -- a cut of the links is one of the board
+  pub is_cut : (border : Border) → border.stock ≤ size_at l.links 89 + size_at l.links 88
+      → board_of (cut_at border l) ≡ board_cut border (board_of l)
+  is_cut border within =
+      let s = size_is l 89 in let q = queue_long l in
+      elim (cases_lt border.stock (size_at l.links 89)) [
+        | inl below ↦
+            let d : ℕ = size_at l.links 89 - border.stock in
+            ap (λ m. board_of (with_redeals m border.redeals_left)) (down_to l border.stock below)
+            ∙ waste_board d border.redeals_left (omega arith)
+            ∙ cut-down border (board_of l) d (omega arith) (omega arith)
+        | inr above ↦
+            let d : ℕ = border.stock - size_at l.links 89 in
+            ap (λ m. board_of (with_redeals m border.redeals_left)) (up_to l border.stock above)
+            ∙ stock_board d border.redeals_left (omega arith)
+            ∙ cut-up border (board_of l) d (omega arith) (omega arith) (omega arith)
+      ]
 
-pub before-run : (packed : Packed) (undo : StockUndo) (border : Border) (after : Board) → length (queue packed.board) ≤ 104
-    → undo.before.stock ≤ length (queue packed.board) → cut_at undo.before packed.board ≡ packed.board
-    → after ≡ cut_at border packed.board
-    → before_run undo (record packed { board = after }) ≡ Some packed
-before-run packed undo border after few fits whole cut =
-    let same : queue after ≡ queue packed.board = ap queue cut ∙ queue-cut border packed.board in
-    let fits_after : undo.before.stock ≤ length (queue after) = omega (arith, ap (λ (xs : List Card). length xs) same, fits) in
-    let few_after : length (queue after) ≤ 104 = omega (arith, ap (λ (xs : List Card). length xs) same, few) in
-    let back : cut_at undo.before after ≡ packed.board = ap (cut_at undo.before) cut ∙ cut-cut border undo.before packed.board ∙ whole in
-    chosen (can_be_cut undo.before after) (Some (record packed { board = cut_at undo.before after })) None (cut-can undo.before after fits_after few_after)
-    ∙ ap (λ (b : Board). Some (record packed { board = b })) back
+  -- a queue that is cut where it is cut
+  still : moved_to l (size_at l.links 89) ≡ l
+  still =
+      let none : size_at l.links 89 - size_at l.links 89 ≡ 0 = omega arith in
+      up_to l (size_at l.links 89) (omega arith) ∙ ap (turned l 88 89) none
 
--- a board that belongs to rules has few cards in its queue
-pub few-in_queue : (rules : RuleParts) (board : Board) → HasFewCards board → length (queue board) ≤ 104
-few-in_queue rules board few = omega (arith, length-queue board, few.all)
+  -- what a cut keeps
+  pub cut_used : (border : Border) → (cut_at border l).links.used ≡ l.links.used
+  cut_used border = elim (cases_lt border.stock (size_at l.links 89)) [
+    | inl below ↦ ap (λ m. m.links.used) (down_to l border.stock below)
+        ∙ each_used 89 88 l.links (size_at l.links 89 - border.stock)
+    | inr above ↦ ap (λ m. m.links.used) (up_to l border.stock above)
+        ∙ each_used 88 89 l.links (border.stock - size_at l.links 89)
+  ]
+
+  pub cut_cards : (border : Border) → (cut_at border l).cards ≡ l.cards
+  cut_cards border = elim (cases_lt border.stock (size_at l.links 89)) [
+    | inl below ↦ ap (λ m. m.cards) (down_to l border.stock below)
+    | inr above ↦ ap (λ m. m.cards) (up_to l border.stock above)
+  ]
+
+  pub cut_stacked : (border : Border) → (cut_at border l).stacked ≡ l.stacked
+  cut_stacked border = elim (cases_lt border.stock (size_at l.links 89)) [
+    | inl below ↦ ap (λ m. m.stacked) (down_to l border.stock below)
+    | inr above ↦ ap (λ m. m.stacked) (up_to l border.stock above)
+  ]
+
+  -- where a cut queue is cut, and how many cards it has
+  pub cut_sizes : (border : Border) → border.stock ≤ size_at l.links 89 + size_at l.links 88
+      → (size_at (cut_at border l).links 89 ≡ border.stock)
+      × (size_at (cut_at border l).links 89 + size_at (cut_at border l).links 88
+      ≡ size_at l.links 89 + size_at l.links 88)
+  cut_sizes border within = elim (cases_lt border.stock (size_at l.links 89)) [
+    | inl below ↦
+        let d : ℕ = size_at l.links 89 - border.stock in
+        let e = each 89 88 (omega arith) (omega arith) down l.links h.chained d (omega arith) in
+        let left = e.left in let there = e.there in
+        subst (λ (m : Linked). (size_at m.links 89 ≡ border.stock)
+        × (size_at m.links 89 + size_at m.links 88 ≡ size_at l.links 89 + size_at l.links 88))
+        (sym (down_to l border.stock below)) (omega arith, omega arith)
+    | inr above ↦
+        let d : ℕ = border.stock - size_at l.links 89 in
+        let e = each 88 89 (omega arith) (omega arith) up l.links h.chained d (omega arith) in
+        let left = e.left in let there = e.there in
+        subst (λ (m : Linked). (size_at m.links 89 ≡ border.stock)
+        × (size_at m.links 89 + size_at m.links 88 ≡ size_at l.links 89 + size_at l.links 88))
+        (sym (up_to l border.stock above)) (omega arith, omega arith)
+  ]
+
+  -- the links of a table that is cut at a and then at b are those of one that is cut at b
+  down_then : (a b : ℕ) → a < size_at l.links 89 → b ≤ size_at l.links 89 + size_at l.links 88
+      → size_at (turned l 89 88 (size_at l.links 89 - a)).links 89 ≡ a
+      → moved_to (turned l 89 88 (size_at l.links 89 - a)) b ≡ moved_to l b
+  down_then a b la lb size =
+      let s : ℕ = size_at l.links 89 in
+      let m : Linked = turned l 89 88 (s - a) in
+      elim (cases_lt b a) [
+        | inl less ↦
+            let n : size_at m.links 89 - b ≡ a - b = omega arith in
+            down_to m b (omega arith) ∙ ap (turned m 89 88) n
+            ∙ ap (with_links l) (each_more l.links 89 88 (s - a) (a - b) (s - b) (omega arith))
+            ∙ sym (down_to l b (omega arith))
+        | inr more ↦
+            let n : b - size_at m.links 89 ≡ b - a = omega arith in
+            up_to m b (omega arith) ∙ ap (turned m 88 89) n ∙ elim (cases_lt b s) [
+              | inl less ↦
+                  ap (with_links l) (each_less 89 88 (omega arith) (omega arith) down l.links h.chained
+                  (s - a) (b - a) (s - b) (omega arith) (omega arith))
+                  ∙ sym (down_to l b less)
+              | inr beyond ↦
+                  ap (with_links l) (each_beyond 89 88 (omega arith) (omega arith) down l.links h.chained
+                  (s - a) (b - a) (b - s) (omega arith) (omega arith))
+                  ∙ sym (up_to l b beyond)
+            ]
+      ]
+
+  up_then : (a b : ℕ) → size_at l.links 89 ≤ a → a ≤ size_at l.links 89 + size_at l.links 88
+      → size_at (turned l 88 89 (a - size_at l.links 89)).links 89 ≡ a
+      → moved_to (turned l 88 89 (a - size_at l.links 89)) b ≡ moved_to l b
+  up_then a b la within size =
+      let s : ℕ = size_at l.links 89 in
+      let m : Linked = turned l 88 89 (a - s) in
+      elim (cases_lt b a) [
+        | inl less ↦
+            let n : size_at m.links 89 - b ≡ a - b = omega arith in
+            down_to m b (omega arith) ∙ ap (turned m 89 88) n ∙ elim (cases_lt b s) [
+              | inl beyond ↦
+                  ap (with_links l) (each_beyond 88 89 (omega arith) (omega arith) up l.links h.chained
+                  (a - s) (a - b) (s - b) (omega arith) (omega arith))
+                  ∙ sym (down_to l b beyond)
+              | inr some ↦
+                  ap (with_links l) (each_less 88 89 (omega arith) (omega arith) up l.links h.chained
+                  (a - s) (a - b) (b - s) (omega arith) (omega arith))
+                  ∙ sym (up_to l b some)
+            ]
+        | inr more ↦
+            let n : b - size_at m.links 89 ≡ b - a = omega arith in
+            up_to m b (omega arith) ∙ ap (turned m 88 89) n
+            ∙ ap (with_links l) (each_more l.links 88 89 (a - s) (b - a) (b - s) (omega arith))
+            ∙ sym (up_to l b (omega arith))
+      ]
+
+  pub cut_again : (a b : Border) → a.stock ≤ size_at l.links 89 + size_at l.links 88
+      → b.stock ≤ size_at l.links 89 + size_at l.links 88 → cut_at b (cut_at a l) ≡ cut_at b l
+  cut_again a b within fits =
+      let size = (cut_sizes a within).0 in
+      elim (cases_lt a.stock (size_at l.links 89)) [
+        | inl below ↦
+            let is = down_to l a.stock below in
+            let sized : size_at (turned l 89 88 (size_at l.links 89 - a.stock)).links 89 ≡ a.stock =
+            subst (λ (m : Linked). size_at m.links 89 ≡ a.stock) is size in
+            ap (λ m. cut_at b (with_redeals m a.redeals_left)) is
+            ∙ redealt (turned l 89 88 (size_at l.links 89 - a.stock)) b a.redeals_left
+            ∙ ap (λ m. with_redeals m b.redeals_left) (down_then a.stock b.stock below fits sized)
+        | inr above ↦
+            let is = up_to l a.stock above in
+            let sized : size_at (turned l 88 89 (a.stock - size_at l.links 89)).links 89 ≡ a.stock =
+            subst (λ (m : Linked). size_at m.links 89 ≡ a.stock) is size in
+            ap (λ m. cut_at b (with_redeals m a.redeals_left)) is
+            ∙ redealt (turned l 88 89 (a.stock - size_at l.links 89)) b a.redeals_left
+            ∙ ap (λ m. with_redeals m b.redeals_left) (up_then a.stock b.stock above within sized)
+      ]
+
+  -- notes of stock moves give the same after further ones
+  pub before_kept : (undo : StockUndo) (a : Border) → a.stock ≤ size_at l.links 89 + size_at l.links 88
+      → before_run undo (cut_at a l) ≡ before_run undo l
+  before_kept undo a within =
+      let can : can_be_cut undo.before (cut_at a l) ≡ can_be_cut undo.before l =
+      ap (nat_le undo.before.stock) (cut_sizes a within).1 in
+      same_if _ _ _ _ can (λ t. cut_again a undo.before within (at_most _ _ t))
+
+  pub before_again : (undo : StockUndo) (border : Border) → undo.before ≡ here l
+      → border.stock ≤ size_at l.links 89 + size_at l.links 88 → before_run undo (cut_at border l) ≡ Some l
+  before_again undo border e within =
+      before_kept undo border within
+      ∙ ap (λ b. let x : Option Linked = (if can_be_cut b l then Some (cut_at b l) else None) in x) e
+      ∙ chosen (can_be_cut (here l) l) (cut_at (here l) l) (fits _ _ (omega arith))
+      ∙ ap (λ m. let x : Option Linked = Some (with_redeals m l.redeals_left) in x) still

@@ -1,5 +1,9 @@
-pub mod Noting
 pub mod Packed
-pub mod Spots
-pub mod StockRuns
+pub mod Packing
 pub mod Undoing
+pub mod Turning
+pub mod StockRuns
+pub mod Piles
+pub mod Spots
+pub mod Slots
+pub mod CardsLeft

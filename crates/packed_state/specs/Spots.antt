@@ -1,6 +1,8 @@
 -- The parts of a packed board, as they are read.
-use Rattle.std.specs.Prelude.{ℕ, ◌-◌, Bool, ◌==◌, nat_lt, List, length, Option, None, is_some, slice_get, if◌then◌else◌}
-use Rattle.std.specs.Option.{unwrap_or}
+use Rattle.std.specs.Prelude.{ℕ, ◌-◌, Bool, ◌==◌, nat_lt, List, [], length, reverse}
+use Rattle.std.specs.Prelude.{Option, None, is_some, slice_get, if◌then◌else◌}
+use Rattle.std.specs.List.{filter_map}
+use Rattle.std.specs.Option.{unwrap_or, option_to_list}
 use Rattle.card_piles.specs.declared.Card.{Card}
 use Rattle.game_rules.specs.Board.{Board, pile_at, entry_at}
 use Rattle.packed_state.specs.declared.Spot.{Spot}
@@ -45,3 +47,16 @@ size_at stacked board Stock = length board.stock
 size_at stacked board Waste = length board.waste
 size_at stacked board Hole = length board.hole
 size_at stacked board (Slot i) = entry_size (entry_at board.slots i)
+
+-- the cards of a part of the board from the top down, and none where the board does not have it
+abbrev pub cards_of : Bool → Board → Spot → List Card
+cards_of stacked board (Pile i) = reverse (pile_at board i).cards
+cards_of stacked board (Cell i) = option_to_list (entry_at board.cells i)
+cards_of stacked board (Reserve i) =
+    if stacked
+    then (if (i == 0) then reverse (filter_map (λ entry. entry) board.reserve) else [])
+    else option_to_list (entry_at board.reserve i)
+cards_of stacked board Stock = reverse board.stock
+cards_of stacked board Waste = reverse board.waste
+cards_of stacked board Hole = reverse board.hole
+cards_of stacked board (Slot i) = option_to_list (entry_at board.slots i)

@@ -1,123 +1,109 @@
--- What an undo and a packed board determine together.
-use Rattle.std.specs.Prelude.{ℕ, zero, suc, ◌+◌, ◌-◌, Bool, ◌&&◌, nat_lt, nat_le, List, [], ◌∷◌, ◌++◌, reverse, length, Option, Some, None, slice_get, slice_set, if◌then◌else◌}
-use Rattle.std.specs.Option.{option_to_list}
+-- What a carry makes of a packed board, slot by slot and link by link, and what takes it back.
+use Rattle.std.specs.Prelude.{◌≡◌, ◌≢◌, ℕ, ◌+◌, ◌-◌, ◌<◌, ◌≤◌, min, Bool, ◌==◌, ◌&&◌, ◌||◌, not, true, nat_lt, nat_le}
+use Rattle.std.specs.Prelude.{IsTrue, List, Option, Some, None, slice_set, if◌then◌else◌}
 use Rattle.card_piles.specs.declared.Card.{Card}
+use Rattle.card_links.specs.Chains.{Chains, link, top_at, size_at, slot_at, shifted}
+use Rattle.game_rules.specs.declared.RuleParts.{RuleParts}
+use Rattle.game_rules.specs.Board.{foundation_top}
 use Rattle.game_rules.specs.declared.Place.{Place}
-use Rattle.game_rules.specs.declared.Place.TheVariants.{Tableau, Cell, Reserve, Waste, Foundation, Hole, Slot}
-use Rattle.game_rules.specs.declared.Target.{Target}
+use Rattle.game_rules.specs.declared.Place.TheVariants.{Tableau, Foundation}
+use Rattle.packed_state.specs.Packed.{Linked, index_of, source_of, is_place, is_single, shape_after, shape_before}
+use Rattle.packed_state.specs.Packed.{card_of, face_at}
+use Rattle.packed_state.specs.Turning.{turned, with_redeals, undealt, have_tops}
 use Rattle.game_rules.specs.declared.Target.TheVariants.{ToWaste, ToTableau, ToHole}
-use Rattle.game_rules.specs.Board.{Board, Pile, pile_at, entry_at, height_at, has_entry, top_part, below_top, top_of}
-use Rattle.game_rules.specs.Play.{is_empty}
-use Rattle.packed_state.specs.declared.Packed.{Packed}
 use Rattle.packed_state.specs.declared.Undo.{Undo}
 use Rattle.packed_state.specs.declared.Undo.TheVariants.{Carried, Dealt, Redealt}
 
--- whether a place of a packed board has room for so many cards more
-abbrev pub has_room : Bool → Board → Place → ℕ → Bool
-has_room stacked board (Tableau i) count = nat_lt i (length board.piles) && nat_le (length (pile_at board i).cards + count) 104
-has_room stacked board (Cell i) count = nat_lt i (length board.cells)
-has_room stacked board (Reserve i) count =
-    if stacked then nat_lt (length board.reserve) 52 else nat_lt i (length board.reserve)
-has_room stacked board Waste count = nat_le (length board.waste + count) 104
-has_room stacked board (Foundation f) count = nat_lt f (length board.heights) && nat_le (height_at board f + count) 255
-has_room stacked board Hole count = nat_le (length board.hole + count) 104
-has_room stacked board (Slot i) count = nat_lt i (length board.slots)
+-- how many cards of a place lie face down
+abbrev pub face_of : Linked → Place → ℕ
+face_of l (Tableau i) = face_at l i
+face_of l place = 0
 
--- the last cards of a place that they were put on; those of a foundation were noted
-abbrev pub last_put : Board → Place → ℕ → List Card → List Card
-last_put board (Tableau i) count noted = top_part count (pile_at board i).cards
-last_put board (Cell i) count noted = option_to_list (entry_at board.cells i)
-last_put board (Reserve i) count noted = []
-last_put board Waste count noted = []
-last_put board (Foundation f) count noted = noted
-last_put board Hole count noted = top_part count board.hole
-last_put board (Slot i) count noted = option_to_list (entry_at board.slots i)
+-- the face-down counts with that of a pile written
+abbrev pub with_face : List ℕ → Place → ℕ → List ℕ
+with_face faces (Tableau i) face = slice_set faces i face
+with_face faces place face = faces
 
--- the board without them
-abbrev pub without_last_put : Board → Place → ℕ → Board
-without_last_put board (Tableau i) count =
-    record board {
-      piles = slice_set board.piles i (record {
-        cards = below_top count (pile_at board i).cards;
-        face_down = (pile_at board i).face_down;
-      });
-    }
-without_last_put board (Cell i) count = record board { cells = slice_set board.cells i None }
-without_last_put board (Reserve i) count = board
-without_last_put board Waste count = board
-without_last_put board (Foundation f) count =
-    record board { heights = slice_set board.heights f (height_at board f - count) }
-without_last_put board Hole count = record board { hole = below_top count board.hole }
-without_last_put board (Slot i) count = record board { slots = slice_set board.slots i None }
+-- the cards with that of a slot written, if there is one to write
+abbrev pub with_card : List Card → ℕ → Option Card → List Card
+with_card cards slot None = cards
+with_card cards slot (Some card) = slice_set cards slot card
 
--- the board with cards back on the place that they were taken from; a pile lies face down as it did
-abbrev pub with_back : Bool → ℕ → Board → Place → List Card → Board
-with_back stacked face_down board (Tableau i) cards =
-    record board {
-      piles = slice_set board.piles i (record { cards = (pile_at board i).cards ++ cards; face_down = face_down });
-    }
-with_back stacked face_down board (Cell i) cards = record board { cells = slice_set board.cells i (slice_get cards 0) }
-with_back stacked face_down board (Reserve i) cards =
-    record board {
-      reserve = if stacked then board.reserve ++ slice_get cards 0 ∷ [] else slice_set board.reserve i (slice_get cards 0);
-    }
-with_back stacked face_down board Waste cards = record board { waste = board.waste ++ cards }
-with_back stacked face_down board (Foundation f) cards =
-    record board { heights = slice_set board.heights f (height_at board f + length cards) }
-with_back stacked face_down board Hole cards = board
-with_back stacked face_down board (Slot i) cards = record board { slots = slice_set board.slots i (slice_get cards 0) }
+-- the card that a foundation gives under these rules
+abbrev pub written : RuleParts → ℕ → Place → Option Card
+written rules size (Foundation f) = foundation_top rules f size
+written rules size place = None
 
--- the tops of the first piles, the first pile's last
-abbrev pub tops_of : ℕ → List Pile → List Card
-tops_of zero piles = []
-tops_of (suc count) [] = []
-tops_of (suc count) (pile ∷ piles) = tops_of count piles ++ option_to_list (top_of pile.cards)
+-- the slot of the first of so many cards at the top of a place
+abbrev pub first_slot : Linked → ℕ → ℕ → ℕ
+first_slot l place count = slot_at l.links place (count - 1)
 
--- the piles, the first of them without their tops
-abbrev pub without_tops : ℕ → List Pile → List Pile
-without_tops zero piles = piles
-without_tops (suc count) [] = []
-without_tops (suc count) (pile ∷ piles) =
-    record { cards = below_top 1 pile.cards; face_down = pile.face_down } ∷ without_tops count piles
+-- the number of the place that rules take a card from
+abbrev pub origin_of : Bool → Linked → Place → ℕ
+origin_of stacked l from = source_of stacked l.shape from
 
--- the board before cards were dealt
-abbrev pub before_deal : Target → ℕ → Board → Board
-before_deal ToWaste count board = record board {
-  stock = board.stock ++ reverse (top_part count board.waste);
-  waste = below_top count board.waste;
-}
-before_deal ToTableau count board = record board {
-  stock = board.stock ++ tops_of count board.piles;
-  piles = without_tops count board.piles;
-}
-before_deal ToHole count board = record board {
-  stock = board.stock ++ top_part count board.hole;
-  hole = below_top count board.hole;
+-- cards can be carried: both places are there, and have the cards and the room
+pub record CanCarry (stacked : Bool) (l : Linked) (from to : Place) (count : ℕ) : Type 0 where
+  pub from_place : IsTrue (is_place l.shape from)
+  pub to_place : IsTrue (is_place l.shape to)
+  pub apart : origin_of stacked l from ≢ index_of to
+  pub some : 0 < count
+  pub enough : count ≤ size_at l.links (origin_of stacked l from)
+  pub room : is_single (index_of to) ≡ true → size_at l.links (index_of to) + count ≤ 1
+
+-- the packed board after a carry
+abbrev pub gone : RuleParts → Linked → Place → Place → ℕ → Linked
+gone rules l from to count = record l {
+  links = shifted l.links (origin_of rules.stacked l from) (index_of to) count;
+  cards = with_card l.cards (first_slot l (origin_of rules.stacked l from) count)
+      (written rules (size_at l.links (origin_of rules.stacked l from)) from);
+  face_down = with_face l.face_down from
+      (min (face_of l from) (size_at l.links (origin_of rules.stacked l from) - count - 1));
+  shape = shape_after rules.stacked l.shape from;
 }
 
--- whether a board has the cards of a deal, and room for them in its stock
-abbrev pub has_dealt : Target → ℕ → Board → Bool
-has_dealt ToWaste count board = nat_le count (length board.waste) && nat_le (length board.stock + count) 104
-has_dealt ToTableau count board = nat_le count (length board.piles) && nat_le (length board.stock + count) 104
-has_dealt ToHole count board = nat_le count (length board.hole) && nat_le (length board.stock + count) 104
+-- what a carry notes
+abbrev pub carry_note : Bool → Linked → Place → Place → ℕ → Undo
+carry_note stacked l from to count =
+    Carried from to count (face_of l from) stacked (card_of l.cards (first_slot l (origin_of stacked l from) count))
 
--- whether the undo fits the board
-abbrev pub fits_undo : Undo → Board → Bool
-fits_undo (Carried from to count face_down stacked noted) board =
-    has_entry board to
-    && has_room stacked (without_last_put board to count) from (length (last_put board to count noted.items))
-fits_undo (Dealt to count) board = has_dealt to count board
-fits_undo (Redealt redeals_left) board = is_empty board.waste
+-- the number of the place that a card goes back to: a stacked reserve gets one entry more
+abbrev pub return_of : Bool → Linked → Place → ℕ
+return_of stacked l from = source_of stacked (shape_before stacked l.shape from) from
 
--- the board before the move of the undo
-abbrev pub board_before : Undo → Board → Board
-board_before (Carried from to count face_down stacked noted) board =
-    with_back stacked face_down (without_last_put board to count) from (last_put board to count noted.items)
-board_before (Dealt to count) board = before_deal to count board
-board_before (Redealt redeals_left) board =
-    record board { stock = []; waste = reverse board.stock; redeals_left = redeals_left }
+-- whether a carry can be taken back: the cards lie there, and there is room where they came from
+abbrev pub fits_carried : Linked → Place → Place → ℕ → ℕ → Bool → Bool
+fits_carried l from to count face stacked =
+    nat_le (shape_before stacked l.shape from).entries 52
+    && is_place (shape_before stacked l.shape from) from
+    && is_place l.shape to
+    && not (return_of stacked l from == index_of to)
+    && nat_lt 0 count
+    && nat_le (face_of l to + count) (size_at l.links (index_of to))
+    && nat_le face (size_at l.links (return_of stacked l from) + count)
+    && (not (is_single (return_of stacked l from)) || nat_le (size_at l.links (return_of stacked l from) + count) 1)
+
+-- the packed board before a carry
+abbrev pub before_carry : Linked → Place → Place → ℕ → ℕ → Bool → Card → Linked
+before_carry l from to count face stacked card = record l {
+  links = shifted l.links (index_of to) (return_of stacked l from) count;
+  cards = slice_set l.cards (first_slot l (index_of to) count) card;
+  face_down = with_face l.face_down from face;
+  shape = shape_before stacked l.shape from;
+}
 
 -- the earlier packed board that an undo and a packed board determine
-abbrev pub before : Undo → Packed → Option Packed
-before undo packed =
-    if fits_undo undo packed.board then Some (record packed { board = board_before undo packed.board }) else None
+abbrev pub before : Undo → Linked → Option Linked
+before (Carried from to count face_down stacked card) l =
+    if fits_carried l from to count face_down stacked
+    then Some (before_carry l from to count face_down stacked card) else None
+before (Dealt ToWaste count) l = if nat_le count (size_at l.links 88) then Some (turned l 88 89 count) else None
+before (Dealt ToHole count) l = if nat_le count (size_at l.links 106) then Some (turned l 106 89 count) else None
+before (Dealt ToTableau count) l = if have_tops l count then Some (undealt l count) else None
+before (Redealt redeals_left) l =
+    if size_at l.links 88 == 0 then Some (with_redeals (turned l 89 88 (size_at l.links 89)) redeals_left) else None
+
+-- the tops of all places but two are as they were, and at most one link is another: that of the slot
+pub record ChangesOne (c d : Chains) (slot from to : ℕ) : Type 0 where
+  pub tops : (p : ℕ) → p ≢ from → p ≢ to → top_at d p ≡ top_at c p
+  pub links : (s : ℕ) → s ≢ slot → link d.under s ≡ link c.under s

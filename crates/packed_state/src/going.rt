@@ -1,158 +1,138 @@
 //! Moves on a packed board, and what they note for their undoing.
-ghost use Rattle.std.specs.Prelude.{◌≡◌, ◌≤◌, IsTrue, length};
-ghost use Rattle.std.specs.Option.{option_to_list};
-ghost use Rattle.game_rules.specs.Board.{has_place, has_cards};
+ghost use Rattle.std.specs.Prelude.{◌≡◌, ℕ, ◌≤◌, ◌<◌, ◌-◌, min, IsTrue, length, Some};
+ghost use Rattle.game_rules.specs.Board.{foundation_top};
 ghost use Rattle.game_rules.specs.Belonging.{Belongs};
-ghost use Rattle.game_rules.specs.Play.{is_legal_carry, is_legal_deal, is_legal_redeal, Legal, after, after_deal_to, after_redeal};
-ghost use Rattle.game_rules.specs.Taking.{taken};
-ghost use Rattle.packed_state.specs.Noting.{face_down_at, noted_on, undo_of, IsFew};
+ghost use Rattle.game_rules.specs.Play.{is_legal_carry, after};
+ghost use Rattle.card_links.specs.Chains.{size_at};
+ghost use Rattle.packed_state.specs.Packed.{IsLinked, index_of, is_place, board_of, is_stacked, HoldsFoundations};
+ghost use Rattle.packed_state.specs.Slots.{ChangesCarried};
+ghost use Rattle.packed_state.specs.Undoing.{face_of, with_face, with_card, written, CanCarry, gone, carry_note};
+ghost use Rattle.packed_state.specs.Undoing.{before, first_slot, origin_of, ChangesOne};
 
-use crate::changing::append;
-use crate::{PackedBoard, Undo};
-use arrayvec::ArrayVec;
+use crate::places::{index_of, shape_after, source_of};
+use crate::{Packed, Undo};
 use card_piles::Card;
 use game_model::Rules;
-use game_rules::{Move, Place, Target};
-use legal_moves::single_at;
+use game_rules::{Move, Place, suit_at};
 
-/// The card that a carry of one card moves. It takes no list.
-fn one_taken(rules: &Rules, board: &PackedBoard, from: Place) -> Option<Card>
-    requires { IsTrue (has_place rules.now board.now from) }
-    ensures { option_to_list result ≡ taken rules.now board.now from 1 }
+/// The top card of a foundation of this height.
+pub(crate) fn foundation_top(rules: &Rules, f: u8, height: u8) -> Option<Card>
+    ensures { result ≡ foundation_top rules.now f height }
 {
-    match from {
-        Place::Tableau(i) => board.pile(i).last().copied(),
-        _ => single_at(rules, board, from),
+    if height == 0 {
+        None
+    } else {
+        Card::new(suit_at(f % 4), rules.foundation_rank(height - 1))
     }
 }
 
-/// The cards that a carry moves.
-fn taken(rules: &Rules, board: &PackedBoard, from: Place, count: u8) -> ArrayVec<Card, 104>
-    requires place { IsTrue (has_place rules.now board.now from) }
-    requires enough { IsTrue (has_cards board.now from count) }
-    ensures { result.items ≡ taken rules.now board.now from count }
+/// The card that a foundation of this size gives, and none for another place.
+fn written(rules: &Rules, size: u8, place: Place) -> Option<Card>
+    ensures { result ≡ written rules.now size place }
 {
-    let mut cards = ArrayVec::new();
-    match from {
-        Place::Tableau(i) => {
-            let pile = board.pile(i);
-            append(&mut cards, &pile[pile.len() - usize::from(count)..]);
-        }
-        _ => {
-            if let Some(card) = single_at(rules, board, from) {
-                cards.push(card);
-            }
-        }
+    match place {
+        Place::Foundation(f) => foundation_top(rules, f, size),
+        _ => None,
     }
-    cards
 }
 
-/// The cards that go on a foundation, and none of another place.
-fn noted_on(to: Place, cards: &[Card]) -> ArrayVec<Card, 13>
-    requires { IsFew to cards.now }
-    ensures { result.items ≡ noted_on to cards.now }
+/// How many cards lie face down where of so many so many are left, and the top is turned up.
+fn turned(face_down: u8, left: u8) -> u8
+    ensures { result ≡ min face_down (left - 1) }
 {
-    let mut noted = ArrayVec::new();
-    if let Place::Foundation(_) = to {
-        append(&mut noted, cards);
+    if face_down < left {
+        face_down
+    } else {
+        left.saturating_sub(1)
     }
-    noted
 }
 
-impl PackedBoard {
+/// Writes how many cards of a pile lie face down.
+pub(crate) fn write_face(faces: &mut [u8], place: Place, face: u8)
+    requires { (i : ℕ) → place ≡ Place.Tableau i → i < length faces.old }
+    ensures { faces.new ≡ with_face faces.old place face }
+{
+    if let Place::Tableau(i) = place {
+        faces[usize::from(i)] = face;
+    }
+}
+
+/// Writes the card of a slot, where there is one to write.
+pub(crate) fn write_card(cards: &mut [Card], slot: u8, card: Option<Card>)
+    requires { slot < length cards.old }
+    ensures { cards.new ≡ with_card cards.old slot card }
+{
+    if let Some(card) = card {
+        cards[usize::from(slot)] = card;
+    }
+}
+
+impl Packed {
     /// How many cards of a place lie face down.
-    fn face_down_at(&self, rules: &Rules, place: Place) -> u8
-        requires { IsTrue (has_place rules.now self.now place) }
-        ensures { result ≡ face_down_at self.now place }
+    fn face_of(&self, place: Place) -> u8
+        requires { IsTrue (is_place self.now.shape place) }
+        ensures { result ≡ face_of self.now place }
     {
         match place {
-            Place::Tableau(i) => self.face_down(i),
+            Place::Tableau(i) => self.face_down[usize::from(i)],
             _ => 0,
         }
     }
 
-    /// Carries cards from one place to another, given the cards.
-    fn carry_cards(
-        &mut self,
-        rules: &Rules,
-        from: Place,
-        to: Place,
-        count: u8,
-        cards: &[Card],
-    ) -> Undo
-        requires belongs { Belongs rules.now self.old }
-        requires legal { IsTrue (is_legal_carry rules.now self.old from to count) }
-        requires taken { cards.now ≡ taken rules.now self.old from count }
-        ensures moved { self.new ≡ after rules.now self.old (Move.Carry from to count) }
-        ensures noted { result ≡ undo_of rules.now self.old (Move.Carry from to count) }
+    /// Carries cards from one place to another.
+    pub(crate) fn carry(&mut self, rules: &Rules, from: Place, to: Place, count: u8) -> Undo
+        requires { CanCarry rules.now.stacked self.old from to count }
+        ensures moved { self.new ≡ gone rules.now self.old from to count }
+        ensures noted { result ≡ carry_note rules.now.stacked self.old from to count }
     {
-        let _ = rules.parts();
-        let undo = Undo::Carried {
+        let stacked = rules.stacked();
+        let (a, b) = (source_of(stacked, &self.shape, from), index_of(to));
+        let slot = self.links.slot(a, count - 1);
+        let size = self.links.size(a);
+        let face_down = self.face_of(from);
+        let card = self.card_of(slot);
+        self.links.shift(a, b, count);
+        write_face(&mut self.face_down, from, turned(face_down, size - count));
+        write_card(&mut self.cards, slot, written(rules, size, from));
+        self.shape = shape_after(stacked, &self.shape, from);
+        Undo::Carried {
             from,
             to,
             count,
-            face_down: self.face_down_at(rules, from),
-            stacked: rules.stacked(),
-            noted: noted_on(to, cards),
-        };
-        self.put(to, cards);
-        self.remove(rules, from, count);
-        undo
+            face_down,
+            stacked,
+            card,
+        }
     }
 
-    /// Carries cards from one place to another.
-    fn carry(&mut self, rules: &Rules, from: Place, to: Place, count: u8) -> Undo
-        requires belongs { Belongs rules.now self.old }
-        requires legal { IsTrue (is_legal_carry rules.now self.old from to count) }
-        ensures moved { self.new ≡ after rules.now self.old (Move.Carry from to count) }
-        ensures noted { result ≡ undo_of rules.now self.old (Move.Carry from to count) }
+    /// Makes a legal carry, and tells what it changed.
+    pub fn go_carry(&mut self, rules: &Rules, from: Place, to: Place, count: u8) -> Undo
+        requires belongs { Belongs rules.now (board_of self.old) }
+        requires legal { IsTrue (is_legal_carry rules.now (board_of self.old) from to count) }
+        ensures moved { board_of self.new ≡ after rules.now (board_of self.old) (Move.Carry from to count) }
+        ensures stacked { is_stacked self.new ≡ is_stacked self.old }
+        ensures can_go_back { before result self.new ≡ Some self.old }
+        ensures belongs { Belongs rules.now (board_of self.new) }
+        ensures cards { ((f : ℕ) → from ≡ Place.Foundation f → HoldsFoundations rules.now self.old)
+            → self.new.cards ≡ self.old.cards }
+        ensures used { self.new.links.used ≡ self.old.links.used }
+        ensures holds { HoldsFoundations rules.now self.old → HoldsFoundations rules.now self.new }
+        ensures carried { ((i : ℕ) → from ≡ Place.Reserve i → is_stacked self.old ≡ rules.now.stacked)
+            → ChangesCarried self.old self.new from to
+            (first_slot self.old (origin_of rules.now.stacked self.old from) count) }
+        ensures one_link { ChangesOne self.old.links self.new.links
+            (first_slot self.old (origin_of rules.now.stacked self.old from) count)
+            (origin_of rules.now.stacked self.old from) (index_of to) }
     {
         let _ = rules.parts();
-        if count == 1 {
-            let card = one_taken(rules, self, from);
-            return self.carry_cards(rules, from, to, count, card.as_slice());
-        }
-        let cards = taken(rules, self, from, count);
-        self.carry_cards(rules, from, to, count, cards.as_slice())
+        self.keep();
+        self.carry(rules, from, to, count)
     }
 
-    /// Deals from the stock's top to where the rules say.
-    fn deal(&mut self, rules: &Rules) -> Undo
-        requires belongs { Belongs rules.now self.old }
-        requires legal { IsTrue (is_legal_deal rules.now self.old) }
-        ensures moved { self.new ≡ after_deal_to rules.now.target rules.now self.old }
-        ensures noted { result ≡ undo_of rules.now self.old Move.Deal }
+    /// The slots are linked.
+    pub(crate) fn keep(&self)
+        ensures { IsLinked self.now }
     {
-        let _ = rules.parts();
-        match rules.target() {
-            Target::ToWaste => self.deal_to_waste(rules.draw()),
-            Target::ToTableau => self.deal_to_tableau(),
-            Target::ToHole => self.deal_to_hole(),
-        }
-    }
-
-    /// Makes the stock of the waste.
-    fn redeal(&mut self, rules: &Rules) -> Undo
-        requires { IsTrue (is_legal_redeal rules.now self.old) }
-        ensures moved { self.new ≡ after_redeal rules.now self.old }
-        ensures noted { result ≡ undo_of rules.now self.old Move.Redeal }
-    {
-        let redeals_left = self.redeals_left();
-        self.turn_waste(rules);
-        Undo::Redealt { redeals_left }
-    }
-
-    /// Makes a legal move, and notes what it changed.
-    pub(crate) fn make(&mut self, rules: &Rules, m: Move) -> Undo
-        requires belongs { Belongs rules.now self.old }
-        requires legal { Legal rules.now self.old m }
-        ensures moved { self.new ≡ after rules.now self.old m }
-        ensures noted { result ≡ undo_of rules.now self.old m }
-    {
-        match m {
-            Move::Carry { from, to, count } => self.carry(rules, from, to, count),
-            Move::Deal => self.deal(rules),
-            Move::Redeal => self.redeal(rules),
-        }
+        let _ = &self.links;
     }
 }

@@ -3,16 +3,19 @@
 //! Stock and waste are one queue of cards, and a stock move shifts the border in it alone. So the
 //! border is moved by number, and then each card between the old border and the new one changes
 //! sides once.
-ghost use Rattle.std.specs.Prelude.{◌≡◌, ◌≤◌, ◌<◌, ◌-◌, IsSome, IsTrue, Some, length, if◌then◌else◌};
+ghost use Rattle.std.specs.Prelude.{◌≡◌, ◌≤◌, ◌<◌, ◌+◌, ◌-◌, IsSome, IsTrue, Some, if◌then◌else◌};
+ghost use Rattle.card_links.specs.Chains.{size_at};
 ghost use Rattle.game_rules.specs.Rules.{is_unlimited};
 ghost use Rattle.game_rules.specs.Belonging.{Belongs};
-ghost use Rattle.game_rules.specs.StockMoves.{HasStockMoves, after_stock_moves, queue};
+ghost use Rattle.game_rules.specs.StockMoves.{HasStockMoves, after_stock_moves};
+ghost use Rattle.packed_state.specs.declared.stock.StockUndo.{StockUndo};
 ghost use Rattle.packed_state.specs.Packed.{board_of, is_stacked};
 ghost use Rattle.packed_state.specs.StockRuns.{before_run, can_be_cut, cut_at};
 
-use crate::{Packed, PackedBoard};
+use crate::Packed;
+use crate::places::{STOCK, WASTE};
 use game_model::Rules;
-use game_rules::{Redeals, Target};
+use game_rules::Redeals;
 
 /// Where the queue of stock and waste is cut.
 #[derive(Clone, Copy, Debug)]
@@ -32,8 +35,14 @@ pub struct StockUndo {
 impl Border {
     /// The border after the next stock move, in a queue of so many cards.
     fn moved(self, rules: &Rules, cards: u8) -> Border
-        ensures deals { 0 < self.stock → result ≡ record { stock = self.stock - rules.now.draw; redeals_left = self.redeals_left } }
-        ensures redeals { self.stock ≡ 0 → result ≡ record { stock = cards; redeals_left = if is_unlimited rules.now.redeals then self.redeals_left else self.redeals_left - 1 } }
+        ensures deals { 0 < self.stock → result ≡ record {
+          stock = self.stock - rules.now.draw;
+          redeals_left = self.redeals_left;
+        } }
+        ensures redeals { self.stock ≡ 0 → result ≡ record {
+          stock = cards;
+          redeals_left = if is_unlimited rules.now.redeals then self.redeals_left else self.redeals_left - 1;
+        } }
     {
         if self.stock != 0 {
             return Border {
@@ -52,26 +61,25 @@ impl Border {
     }
 }
 
-impl PackedBoard {
+impl Packed {
     /// Where the border lies.
     fn border(&self) -> Border
-        ensures whole { cut_at result self.now ≡ self.now }
-        ensures fits { result.stock ≤ length (queue self.now) }
+        ensures { result ≡ record { stock = size_at self.now.links 89; redeals_left = self.now.redeals_left } }
     {
         Border {
-            stock: self.stock().len() as u8,
-            redeals_left: self.redeals_left(),
+            stock: self.links.size(STOCK),
+            redeals_left: self.redeals_left,
         }
     }
 
     /// Where the border lies after so many stock moves.
     fn border_after(&self, rules: &Rules, k: u16) -> Border
-        requires so_many { HasStockMoves rules.now k self.now }
-        requires few { length (queue self.now) ≤ 104 }
-        ensures moved { cut_at result self.now ≡ after_stock_moves rules.now k self.now }
-        ensures fits { result.stock ≤ length (queue self.now) }
+        requires { HasStockMoves rules.now k (board_of self.now) }
+        ensures fits { result.stock ≤ size_at self.now.links 89 + size_at self.now.links 88 }
+        ensures moved { board_of (cut_at result self.now) ≡ after_stock_moves rules.now k (board_of self.now) }
     {
-        let cards = (self.stock().len() + self.waste().len()) as u8;
+        self.keep();
+        let cards = self.links.size(STOCK) + self.links.size(WASTE);
         let mut border = self.border();
         for made in 0..k {
             let _ = made;
@@ -80,46 +88,23 @@ impl PackedBoard {
         border
     }
 
-    /// Cuts the queue of stock and waste at a border within the stock: cards of the stock go to the
-    /// waste.
-    fn cut_stock(&mut self, border: Border)
-        requires fits { IsTrue (can_be_cut border self.old) }
-        requires below { border.stock ≤ length self.old.stock }
-        ensures { self.new ≡ cut_at border self.old }
-    {
-        let count = self.stock().len() as u8 - border.stock;
-        let _ = self.deal_to_waste(count);
-        self.redeals_left = border.redeals_left;
-    }
-
-    /// Cuts the queue of stock and waste at a border within the waste: cards of the waste go back to
-    /// the stock.
-    fn cut_waste(&mut self, border: Border)
-        requires fits { IsTrue (can_be_cut border self.old) }
-        requires above { length self.old.stock ≤ border.stock }
-        ensures { self.new ≡ cut_at border self.old }
-    {
-        let count = border.stock - self.stock().len() as u8;
-        self.undeal(Target::ToWaste, count);
-        self.redeals_left = border.redeals_left;
-    }
-
     /// Cuts the queue of stock and waste at a border.
     fn cut(&mut self, border: Border)
         requires { IsTrue (can_be_cut border self.old) }
         ensures { self.new ≡ cut_at border self.old }
     {
-        if usize::from(border.stock) < self.stock().len() {
-            self.cut_stock(border);
+        let stock = self.links.size(STOCK);
+        if border.stock < stock {
+            self.turn(STOCK, WASTE, stock - border.stock);
         } else {
-            self.cut_waste(border);
+            self.turn(WASTE, STOCK, border.stock - stock);
         }
+        self.set_redeals(border.redeals_left);
     }
-}
 
-impl Packed {
     /// Makes `k` stock moves, each the next stock move of the board where it is made: a deal while
-    /// the stock has a card, else a redeal. It takes no memory.
+    /// the stock has a card, else a redeal. What earlier stock moves noted takes all of them back.
+    /// It takes no memory.
     pub fn run_stock(&mut self, rules: &Rules, k: u16) -> StockUndo
         requires belongs { Belongs rules.now (board_of self.old) }
         requires so_many { HasStockMoves rules.now k (board_of self.old) }
@@ -127,11 +112,15 @@ impl Packed {
         ensures stacked { is_stacked self.new ≡ is_stacked self.old }
         ensures can_go_back { before_run result self.new ≡ Some self.old }
         ensures belongs { Belongs rules.now (board_of self.new) }
+        ensures cards { self.new.cards ≡ self.old.cards }
+        ensures used { self.new.links.used ≡ self.old.links.used }
+        ensures same_notes { (undo : StockUndo) → before_run undo self.new ≡ before_run undo self.old }
     {
         let _ = rules.parts();
-        let before = self.board.border();
-        let border = self.board.border_after(rules, k);
-        self.board.cut(border);
+        self.keep();
+        let before = self.border();
+        let border = self.border_after(rules, k);
+        self.cut(border);
         StockUndo { before }
     }
 
@@ -141,6 +130,6 @@ impl Packed {
         requires { IsSome (before_run undo self.old) }
         ensures { before_run undo self.old ≡ Some self.new }
     {
-        self.board.cut(undo.before);
+        self.cut(undo.before);
     }
 }

@@ -1,34 +1,57 @@
-//! A packed board as a table of cards, within this crate and to those above.
-ghost use Rattle.std.specs.Prelude.{◌≤◌, ◌<◌, take, length};
-ghost use Rattle.game_rules.specs.Board.{pile_at};
+//! A packed board as a table of cards, to this crate and to those above.
+ghost use Rattle.packed_state.specs.Packed.{board_of};
+ghost use Rattle.packed_state.specs.Piles.{IsPart, part_cards};
 
-use crate::{Packed, PackedBoard};
+use crate::Packed;
+use crate::places::{CELLS, ENTRIES, HOLE, SLOTS, STOCK, WASTE};
 use card_piles::Card;
-use game_model::{Lowest, Table};
+use game_model::Table;
 
-impl Table for PackedBoard {
-    type Stack = Lowest;
+/// A part of a pile: the slot of its uppermost card, and how many cards it has.
+#[derive(Clone, Copy, Debug)]
+pub struct Chain {
+    slot: u8,
+    left: u8,
+}
 
-    ghost board = { λ b. b };
+impl Table for Packed {
+    type Stack = Chain;
 
-    ghost stands = { λ b s. (s.pile < length b.piles) × (s.size ≤ length (pile_at b s.pile).cards) };
+    ghost board = { board_of };
 
-    ghost cards = { λ b s. take s.size (pile_at b s.pile).cards };
+    ghost stands = { λ l s. IsPart l s };
 
-    fn pile(&self, i: u8) -> Lowest {
-        Lowest::all(i, self.pile(i))
+    ghost cards = { λ l s. part_cards l s };
+
+    fn pile(&self, i: u8) -> Chain {
+        self.keep();
+        Chain {
+            slot: self.links.top(usize::from(i)),
+            left: self.links.size(usize::from(i)),
+        }
     }
 
-    fn top(&self, stack: Lowest) -> Option<Card> {
-        stack.top(self.pile(stack.pile))
+    fn top(&self, stack: Chain) -> Option<Card> {
+        if stack.left == 0 {
+            None
+        } else {
+            Some(self.card_of(stack.slot))
+        }
     }
 
-    fn under(&self, stack: Lowest) -> Lowest {
-        stack.under()
+    fn under(&self, stack: Chain) -> Chain {
+        if stack.left == 0 {
+            return stack;
+        }
+        Chain {
+            slot: self.links.under(stack.slot),
+            left: stack.left - 1,
+        }
     }
 
     fn size(&self, i: u8) -> usize {
-        self.pile(i).len()
+        self.keep();
+        usize::from(self.count(usize::from(i)))
     }
 
     fn face_down(&self, i: u8) -> u8 {
@@ -36,27 +59,34 @@ impl Table for PackedBoard {
     }
 
     fn cell(&self, i: u8) -> Option<Card> {
-        self.cell(i)
+        self.keep();
+        self.top_card(CELLS + usize::from(i))
     }
 
     fn entry_count(&self) -> usize {
-        self.reserve().len()
+        usize::from(self.shape.entries)
     }
 
     fn entry(&self, i: u8) -> Option<Card> {
-        self.reserve()[usize::from(i)]
+        self.keep();
+        self.top_card(ENTRIES + usize::from(i))
     }
 
     fn last_entry(&self) -> Option<Card> {
-        self.reserve().last().copied().unwrap_or(None)
+        self.keep();
+        if self.shape.entries == 0 {
+            None
+        } else {
+            self.top_card(ENTRIES + usize::from(self.shape.entries - 1))
+        }
     }
 
     fn stock_size(&self) -> usize {
-        self.stock().len()
+        usize::from(self.count(STOCK))
     }
 
     fn waste_top(&self) -> Option<Card> {
-        self.waste().last().copied()
+        self.top_card(WASTE)
     }
 
     fn redeals_left(&self) -> u8 {
@@ -68,80 +98,11 @@ impl Table for PackedBoard {
     }
 
     fn hole_top(&self) -> Option<Card> {
-        self.hole().last().copied()
+        self.top_card(HOLE)
     }
 
     fn slot(&self, i: u8) -> Option<Card> {
-        self.slot(i)
-    }
-}
-
-impl Table for Packed {
-    type Stack = Lowest;
-
-    ghost board = { λ p. p.board };
-
-    ghost stands = { λ p s. (s.pile < length p.board.piles) × (s.size ≤ length (pile_at p.board s.pile).cards) };
-
-    ghost cards = { λ p s. take s.size (pile_at p.board s.pile).cards };
-
-    fn pile(&self, i: u8) -> Lowest {
-        Lowest::all(i, self.board.pile(i))
-    }
-
-    fn top(&self, stack: Lowest) -> Option<Card> {
-        self.board.top(stack)
-    }
-
-    fn under(&self, stack: Lowest) -> Lowest {
-        self.board.under(stack)
-    }
-
-    fn size(&self, i: u8) -> usize {
-        self.board.size(i)
-    }
-
-    fn face_down(&self, i: u8) -> u8 {
-        self.board.face_down(i)
-    }
-
-    fn cell(&self, i: u8) -> Option<Card> {
-        self.board.cell(i)
-    }
-
-    fn entry_count(&self) -> usize {
-        self.board.entry_count()
-    }
-
-    fn entry(&self, i: u8) -> Option<Card> {
-        self.board.entry(i)
-    }
-
-    fn last_entry(&self) -> Option<Card> {
-        self.board.last_entry()
-    }
-
-    fn stock_size(&self) -> usize {
-        self.board.stock_size()
-    }
-
-    fn waste_top(&self) -> Option<Card> {
-        self.board.waste_top()
-    }
-
-    fn redeals_left(&self) -> u8 {
-        self.board.redeals_left()
-    }
-
-    fn height(&self, f: u8) -> u8 {
-        self.board.height(f)
-    }
-
-    fn hole_top(&self) -> Option<Card> {
-        self.board.hole_top()
-    }
-
-    fn slot(&self, i: u8) -> Option<Card> {
-        self.board.slot(i)
+        self.keep();
+        self.top_card(SLOTS + usize::from(i))
     }
 }

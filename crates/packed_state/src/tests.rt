@@ -2,4 +2,5 @@
 
 mod moves;
 mod readings;
+mod traces;
 mod walks;

@@ -39,9 +39,11 @@ abbrev pub after_piles : ℕ → List ℕ → List ℕ
 after_piles zero bytes = bytes
 after_piles (suc n) bytes = after_pile (after_piles n bytes)
 
+-- so many piles, one after the other
 abbrev pub piles_in : ℕ → List ℕ → List Pile
 piles_in n bytes = map (λ i. pile_in (after_piles i bytes)) (range_with_len 0 n)
 
+-- the entry with the card of a byte
 abbrev pub card_entry : ℕ → Option Card
 card_entry byte = Some (card_of_byte byte)
 
@@ -53,6 +55,7 @@ reserve_in rules bytes = if rules.stacked then map card_entry bytes else filled 
 abbrev pub height_in : RuleParts → List ℕ → ℕ → ℕ
 height_in rules bytes f = slice_index_or bytes (f % 4 * rules.decks + f / 4) 0
 
+-- the heights of all foundations
 abbrev pub heights_in : RuleParts → List ℕ → List ℕ
 heights_in rules bytes = map (height_in rules bytes) (range_with_len 0 (foundation_count rules))
 
@@ -60,22 +63,27 @@ heights_in rules bytes = map (height_in rules bytes) (range_with_len 0 (foundati
 abbrev pub hole_size : RuleParts → ℕ
 hole_size rules = if is_hole_goal rules.goal then 2 else 0
 
--- where the parts begin
+-- the bytes from the waste on
 abbrev pub from_waste : List ℕ → List ℕ
 from_waste bytes = after_counted (drop 1 bytes)
 
+-- the bytes from the heights on
 abbrev pub from_heights : List ℕ → List ℕ
 from_heights bytes = after_counted (from_waste bytes)
 
+-- the bytes from the hole on
 abbrev pub from_hole : RuleParts → List ℕ → List ℕ
 from_hole rules bytes = drop (foundation_count rules) (from_heights bytes)
 
+-- the bytes from the cells on
 abbrev pub from_cells : RuleParts → List ℕ → List ℕ
 from_cells rules bytes = drop (hole_size rules) (from_hole rules bytes)
 
+-- the bytes from the reserve on
 abbrev pub from_reserve : RuleParts → List ℕ → List ℕ
 from_reserve rules bytes = after_counted (from_cells rules bytes)
 
+-- the parts, each with its bytes
 abbrev pub said : RuleParts → List ℕ → Said
 said rules bytes = record {
   redeals_left = slice_index_or bytes 0 0;
@@ -92,6 +100,7 @@ said rules bytes = record {
 abbrev pub row_in : RuleParts → List ℕ → ℕ → List (Option Card)
 row_in rules bytes r = map entry_of_byte (take rules.max_rank (drop (r * rules.max_rank) bytes))
 
+-- all rows, one after the other
 abbrev pub rows_in : RuleParts → List ℕ → List (List (Option Card))
 rows_in rules bytes = map (row_in rules bytes) (range_with_len 0 (row_count rules))
 

@@ -6,7 +6,6 @@ use Rattle.game_rules.specs.declared.RuleParts.{RuleParts}
 use Rattle.game_rules.specs.Conflicts.{IsPlayable}
 use Rattle.game_rules.specs.Board.{Board}
 use Rattle.stock_steps.specs.declared.Step.{Step}
-use Rattle.stock_steps.specs.Steps.{after_step, steps}
 use Rattle.game_rules.specs.Winning.{Won}
 use Rattle.game_rules.specs.Belonging.{Belongs}
 use Rattle.same_boards.specs.Same.{Same}
@@ -21,7 +20,7 @@ abbrev pub keyed_game : RuleParts → Game Board Step
 keyed_game rules = game_of (play_of rules) (pointwise nat_eq)
 
 pub agrees : (rules : RuleParts) (start : Board) → IsPlayable rules → Belongs rules start
-    → Agree (steps rules) (after_step rules) (Won rules) (Won rules) (keyed_game rules).Same (Same rules) start
+    → Agree (keyed_game rules) (Won rules) (Same rules) start
 agrees rules start playable belongs =
     let is = reached-belongs rules (Won rules) (keyed_game rules).Same playable start in
     record {

@@ -1,3 +1,4 @@
+pub mod Begun
 pub mod Singles
 pub mod Whole
 pub mod WellBoards

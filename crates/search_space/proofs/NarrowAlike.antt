@@ -13,12 +13,11 @@ use Rattle.same_boards.specs.Colours.{SameColours, colour_key_bytes}
 use Rattle.same_boards.proofs.SameLaws.{Same-refl, Same-sym, Same-trans, SameColours-refl, SameColours-sym, SameColours-trans}
 use Rattle.same_boards.proofs.ColourKeys.{colour_key-from_same, same-from_colour_key}
 use Rattle.stock_steps.specs.declared.Step.{Step}
-use Rattle.stock_steps.specs.Steps.{after_step}
 use Rattle.streamliner.specs.declared.Streamliner.{Streamliner}
 use Rattle.streamliner.specs.declared.Streamliner.TheVariants.{AutoFoundations, SuitSymmetry, Both}
 use Rattle.dfs_core.specs.Play.{game_of}
 use Rattle.dfs_core.proofs.Agree.{Agree}
-use Rattle.search_space.specs.Narrow.{narrow_game, narrow_steps, NarrowSame}
+use Rattle.search_space.specs.Narrow.{narrow_game, NarrowSame}
 use Rattle.search_space.specs.NarrowPlay.{narrow_key, narrow_play}
 use Rattle.search_space.proofs.Alike.{keys-compared}
 use Rattle.search_space.proofs.NarrowReached.{narrow_reached-belongs}
@@ -49,7 +48,7 @@ narrow_keyed_game rules way = game_of (narrow_play rules way) (pointwise nat_eq)
 
 -- a walk by equal keys is a walk of the restricted game
 pub narrow-agrees : (rules : RuleParts) (way : Streamliner) (start : Board) → IsPlayable rules → Belongs rules start
-    → Agree (narrow_steps rules way) (after_step rules) (Won rules) (Won rules) (narrow_keyed_game rules way).Same (NarrowSame rules way) start
+    → Agree (narrow_keyed_game rules way) (Won rules) (NarrowSame rules way) start
 narrow-agrees rules way start playable belongs =
     let is = narrow_reached-belongs rules way (Won rules) (narrow_keyed_game rules way).Same playable start in
     record {

@@ -5,8 +5,7 @@ use Rattle.game_rules.specs.declared.RuleParts.{RuleParts}
 use Rattle.game_rules.specs.Conflicts.{IsPlayable}
 use Rattle.game_rules.specs.Belonging.{Belongs}
 use Rattle.game_rules.proofs.Limits.{limits_of}
-use Rattle.packed_state.specs.declared.Packed.{Packed}
-use Rattle.packed_state.specs.Packed.{board_of}
+use Rattle.packed_state.specs.Packed.{Linked, board_of}
 use Rattle.search_space.specs.declared.going.StepUndo.{StepUndo}
 use Rattle.search_space.specs.Undoing.{before_step}
 use Rattle.search_space.specs.Plain.{Standing, standing_on, before_of}
@@ -22,8 +21,8 @@ if-some true x h = refl
 if-some false x h = cc
 
 -- where the earlier packed board belongs to the rules, the space stood on it
-pub before_of-some : (rules : RuleParts) (undo : StepUndo) (packed earlier : Packed) → IsPlayable rules → Belongs rules (board_of earlier)
-    → before_step undo packed ≡ Some earlier
+pub before_of-some : (rules : RuleParts) (undo : StepUndo) (packed earlier : Linked) → IsPlayable rules
+    → Belongs rules (board_of earlier) → before_step undo packed ≡ Some earlier
     → before_of undo (record { rules = rules; packed = packed }) ≡ Some (record { rules = rules; packed = earlier })
 before_of-some rules undo packed earlier playable belongs e =
     ap (standing_on rules) e
@@ -31,10 +30,11 @@ before_of-some rules undo packed earlier playable belongs e =
     (is_well-of_belongs rules (board_of earlier) (limits_of rules playable) belongs)
 
 -- the space came from a board that belongs to the rules
-pub belongs-before : (rules : RuleParts) (undo : StepUndo) (packed earlier : Packed) → IsPlayable rules
+pub belongs-before : (rules : RuleParts) (undo : StepUndo) (packed earlier : Linked) → IsPlayable rules
     → IsSome (before_of undo (record { rules = rules; packed = packed })) → before_step undo packed ≡ Some earlier
     → Belongs rules (board_of earlier)
 belongs-before rules undo packed earlier playable some e =
     let standing : Standing = record { rules = rules; packed = earlier } in
     belongs-of_well rules (board_of earlier) (limits_of rules playable)
-    (if-some (is_well rules (board_of earlier)) standing (subst (λ (o : Option Packed). IsSome (standing_on rules o)) e some))
+    (if-some (is_well rules (board_of earlier)) standing
+    (subst (λ (o : Option Linked). IsSome (standing_on rules o)) e some))

@@ -9,7 +9,7 @@ use Rattle.stock_steps.specs.declared.Step.{Step}
 use Rattle.stock_steps.specs.Steps.{after_step}
 use Rattle.streamliner.specs.declared.Streamliner.{Streamliner}
 use Rattle.streamliner.specs.Narrow.{is_coarse}
-use Rattle.packed_state.specs.declared.Packed.{Packed}
+use Rattle.packed_state.specs.Packed.{Linked}
 use Rattle.dfs_core.specs.Play.{Play}
 use Rattle.search_space.specs.declared.going.StepUndo.{StepUndo}
 use Rattle.search_space.specs.Narrow.{narrow_steps}
@@ -28,7 +28,7 @@ narrow_play rules way =
 pub record NarrowStanding : Type 0 where
   pub rules : RuleParts
   pub way : Streamliner
-  pub packed : Packed
+  pub packed : Linked
 
 -- a standing that is restricted in this way
 abbrev pub restricted : Streamliner → Option Standing → Option NarrowStanding

@@ -6,8 +6,7 @@ use Rattle.game_rules.specs.Winning.{is_won}
 use Rattle.same_boards.specs.Keys.{key_bytes}
 use Rattle.stock_steps.specs.declared.Step.{Step}
 use Rattle.stock_steps.specs.Steps.{after_step, steps}
-use Rattle.packed_state.specs.declared.Packed.{Packed}
-use Rattle.packed_state.specs.Packed.{board_of}
+use Rattle.packed_state.specs.Packed.{Linked, board_of}
 use Rattle.dfs_core.specs.Play.{Play}
 use Rattle.search_space.specs.declared.going.StepUndo.{StepUndo}
 use Rattle.search_space.specs.Undoing.{before_step}
@@ -20,10 +19,10 @@ play_of rules = record { steps = steps rules; after = after_step rules; won = is
 -- the rules that a space plays by, and the packed board on which it stands
 pub record Standing : Type 0 where
   pub rules : RuleParts
-  pub packed : Packed
+  pub packed : Linked
 
 -- a packed board that belongs to the rules, as a standing
-abbrev pub standing_on : RuleParts → Option Packed → Option Standing
+abbrev pub standing_on : RuleParts → Option Linked → Option Standing
 standing_on rules None = None
 standing_on rules (Some packed) =
     if is_well rules (board_of packed) then Some (record { rules = rules; packed = packed }) else None

@@ -9,7 +9,7 @@
 //! A `NarrowSpace` is restricted: a carry to a foundation is taken alone, or boards are known up to the suits of a
 //! colour, or both.
 //! Above: the solver searches a `PlainSpace` and uses the clauses of `new` and the laws.
-//! Refuses: `steps` for want of memory; nothing else takes memory.
+//! Refuses: `steps` for want of memory, and the list is then as before; nothing else takes memory.
 //! Not promised: that a step leads to a win, and of a `NarrowSpace` that no win is lost.
 #![tactic(auto)]
 

@@ -1,5 +1,5 @@
 //! The steps that the search tries of a board.
-ghost use Rattle.std.specs.Prelude.{◌≡◌, [], ◌∷◌, ◌++◌, ◌||◌, IfOk, OnOk};
+ghost use Rattle.std.specs.Prelude.{◌≡◌, [], ◌∷◌, ◌++◌, ◌||◌, IfOk, OnOk, OnErr, length, take};
 ghost use Rattle.std.specs.List.{filter};
 ghost use Rattle.game_rules.specs.Belonging.{Belongs};
 ghost use Rattle.game_rules.specs.Order.{legal_moves};
@@ -44,7 +44,8 @@ fn deals_to_waste(rules: &Rules) -> bool
 
 /// Appends a move as a step of its own.
 pub(crate) fn push_single(last: Move, out: &mut Vec<Step>) -> Result<(), NoMemory>
-    ensures { OnOk result (out.new.items ≡ out.old.items ++ steps_from 0 (last ∷ [])) }
+    ensures ok { OnOk result (out.new.items ≡ out.old.items ++ steps_from 0 (last ∷ [])) }
+    ensures begun { OnErr result (take (length out.old.items) out.new.items ≡ out.old.items) }
 {
     match out.push(Step { deals: 0, last }) {
         Ok(()) => Ok(()),
@@ -54,7 +55,8 @@ pub(crate) fn push_single(last: Move, out: &mut Vec<Step>) -> Result<(), NoMemor
 
 /// Appends moves as steps of their own: all of them, or the carries from other places than the waste alone.
 fn push_singles(moves: &[Move], all: bool, out: &mut Vec<Step>) -> Result<(), NoMemory>
-    ensures { OnOk result (out.new.items ≡ out.old.items ++ steps_from 0 (filter (λ m. all || is_from_elsewhere m) moves.now)) }
+    ensures ok { OnOk result (out.new.items ≡ out.old.items ++ steps_from 0 (filter (λ m. all || is_from_elsewhere m) moves.now)) }
+    ensures begun { OnErr result (take (length out.old.items) out.new.items ≡ out.old.items) }
 {
     for m in moves {
         if is_listed(all, *m) {
@@ -76,6 +78,7 @@ pub(crate) fn list_free_steps(
     requires belongs { Belongs rules.now (board_of packed.old) }
     requires moves { moves.now ≡ legal_moves rules.now (board_of packed.old) }
     ensures listed { OnOk result (out.new.items ≡ out.old.items ++ free_steps rules.now (board_of packed.old)) }
+    ensures begun { OnErr result (take (length out.old.items) out.new.items ≡ out.old.items) }
     ensures as_before { packed.new ≡ packed.old }
 {
     if !deals_to_waste(rules) {
@@ -110,6 +113,7 @@ pub(crate) fn list_steps(
 ) -> Result<(), NoMemory>
     requires { Belongs rules.now (board_of packed.old) }
     ensures listed { OnOk result (out.new.items ≡ out.old.items ++ steps rules.now (board_of packed.old)) }
+    ensures begun { OnErr result (take (length out.old.items) out.new.items ≡ out.old.items) }
     ensures as_before { packed.new ≡ packed.old }
 {
     match first_safe(rules, packed) {

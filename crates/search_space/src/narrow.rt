@@ -1,5 +1,5 @@
 //! The space of a restricted search, which may lose wins.
-ghost use Rattle.std.specs.Prelude.{◌≡◌, ℕ, ◌++◌, OnOk};
+ghost use Rattle.std.specs.Prelude.{◌≡◌, ℕ, ◌++◌, OnOk, OnErr, length, take};
 ghost use Rattle.game_rules.specs.Belonging.{Belongs};
 ghost use Rattle.game_rules.specs.Winning.{Wins};
 ghost use Rattle.packed_state.specs.Packed.{board_of};
@@ -70,6 +70,7 @@ fn list_home_or_steps(
     requires { Belongs rules.now (board_of packed.old) }
     ensures listed { OnOk result (out.new.items
         ≡ out.old.items ++ narrow_steps rules.now AutoFoundations (board_of packed.old)) }
+    ensures begun { OnErr result (take (length out.old.items) out.new.items ≡ out.old.items) }
     ensures as_before { packed.new ≡ packed.old }
 {
     let moves = moves_of(alloc, rules, packed)?;
@@ -90,6 +91,7 @@ fn list_narrow_steps(
 ) -> Result<(), NoMemory>
     requires { Belongs rules.now (board_of packed.old) }
     ensures listed { OnOk result (out.new.items ≡ out.old.items ++ narrow_steps rules.now way (board_of packed.old)) }
+    ensures begun { OnErr result (take (length out.old.items) out.new.items ≡ out.old.items) }
     ensures as_before { packed.new ≡ packed.old }
 {
     match way {
@@ -97,6 +99,29 @@ fn list_narrow_steps(
             alloc, rules, packed, out,
         ),
         Streamliner::SuitSymmetry => list_steps(alloc, rules, packed, out),
+    }
+}
+
+/// The same, but after a refusal the list is as before.
+fn list_narrow_or_leave(
+    alloc: Global,
+    rules: &Rules,
+    way: Streamliner,
+    packed: &mut Packed,
+    out: &mut Vec<Step>,
+) -> Result<(), NoMemory>
+    requires { Belongs rules.now (board_of packed.old) }
+    ensures listed { OnOk result (out.new.items ≡ out.old.items ++ narrow_steps rules.now way (board_of packed.old)) }
+    ensures refused { OnErr result (out.new.items ≡ out.old.items) }
+    ensures as_before { packed.new ≡ packed.old }
+{
+    let size = out.len();
+    match list_narrow_steps(alloc, rules, way, packed, out) {
+        Ok(()) => Ok(()),
+        Err(refused) => {
+            out.truncate(size);
+            Err(refused)
+        }
     }
 }
 
@@ -118,7 +143,7 @@ impl<'a> Space for NarrowSpace<'a> {
     ghost wins = { λ s n board. Wins s.rules n board };
 
     fn steps(&mut self, alloc: Global, out: &mut Vec<Step>) -> Result<(), NoMemory> {
-        list_narrow_steps(alloc, self.rules, self.way, &mut self.packed, out)
+        list_narrow_or_leave(alloc, self.rules, self.way, &mut self.packed, out)
     }
 
     fn go(&mut self, step: Step) -> StepUndo {

@@ -1,11 +1,12 @@
 //! The space that a solver searches.
-ghost use Rattle.std.specs.Prelude.{◌≡◌, ℕ, nat_eq};
+ghost use Rattle.std.specs.Prelude.{◌≡◌, ℕ, ◌++◌, OnOk, OnErr, nat_eq};
 ghost use Rattle.game_rules.specs.Belonging.{Belongs};
 ghost use Rattle.game_rules.specs.Winning.{Wins};
 ghost use Rattle.packed_state.specs.Packed.{board_of};
 ghost use Rattle.trails.specs.Complete.{IsComplete};
 ghost use Rattle.dfs_core.specs.Play.{game_of};
 ghost use Rattle.std.specs.Cmp.Lexicographic.{pointwise};
+ghost use Rattle.stock_steps.specs.Steps.{steps};
 ghost use Rattle.search_space.specs.Plain.{play_of, before_of};
 
 use crate::going::{StepUndo, back_step, go_step};
@@ -57,6 +58,28 @@ impl<'a> PlainSpace<'a> {
     }
 }
 
+/// Appends the steps of the board in their order. After a refusal the list is as before. The packed board is so always.
+fn list_or_leave(
+    alloc: Global,
+    rules: &Rules,
+    packed: &mut Packed,
+    out: &mut Vec<Step>,
+) -> Result<(), NoMemory>
+    requires { Belongs rules.now (board_of packed.old) }
+    ensures listed { OnOk result (out.new.items ≡ out.old.items ++ steps rules.now (board_of packed.old)) }
+    ensures refused { OnErr result (out.new.items ≡ out.old.items) }
+    ensures as_before { packed.new ≡ packed.old }
+{
+    let size = out.len();
+    match list_steps(alloc, rules, packed, out) {
+        Ok(()) => Ok(()),
+        Err(refused) => {
+            out.truncate(size);
+            Err(refused)
+        }
+    }
+}
+
 impl<'a> Space for PlainSpace<'a> {
     type Key = Key;
 
@@ -75,7 +98,7 @@ impl<'a> Space for PlainSpace<'a> {
     ghost wins = { λ s n board. Wins s.rules n board };
 
     fn steps(&mut self, alloc: Global, out: &mut Vec<Step>) -> Result<(), NoMemory> {
-        list_steps(alloc, self.rules, &mut self.packed, out)
+        list_or_leave(alloc, self.rules, &mut self.packed, out)
     }
 
     fn go(&mut self, step: Step) -> StepUndo {

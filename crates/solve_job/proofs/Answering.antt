@@ -17,7 +17,7 @@ use Rattle.game_rules.specs.declared.Move.{Move}
 use Rattle.game_rules.specs.Board.{Board}
 use Rattle.game_rules.specs.Conflicts.{IsPlayable}
 use Rattle.stock_steps.specs.declared.Step.{Step}
-use Rattle.stock_steps.specs.Steps.{CanBeMade, after_step, after_steps, expand_trail, steps}
+use Rattle.stock_steps.specs.Steps.{CanBeMade, after_steps, expand_trail, steps}
 use Rattle.stock_steps.proofs.StockLaws.{trail_line}
 use Rattle.game_rules.specs.Winning.{Won, Wins}
 use Rattle.same_boards.specs.Same.{Same}
@@ -29,7 +29,7 @@ use Rattle.solve_job.proofs.Lines.{any_game, trail_end, trail_made, plain_made, 
 
 -- A game as a search plays it, and as a verdict shows it. Both have these steps; they agree on what is the same.
 module _ (rules : RuleParts) (list : Board → List Step) (Keyed Same' : Board → Board → Type 0) (start : Board) (cache limit spent : ℕ)
-    (agree : Agree list (after_step rules) (Won rules) (Won rules) Keyed Same' start) (within : spent ≤ limit) where
+    (agree : Agree (any_game rules list (Won rules) Keyed) (Won rules) Same' start) (within : spent ≤ limit) where
   abbrev played : Game Board Step
   played = any_game rules list (Won rules) Keyed
 
@@ -41,21 +41,21 @@ module _ (rules : RuleParts) (list : Board → List Step) (Keyed Same' : Board �
     trail_in l c = (clean_in played start walk is_walk l c).steps
 
     pub shown_walk : IsWalk shown start walk
-    shown_walk = walk_there list (after_step rules) (Won rules) (Won rules) Keyed Same' start agree walk is_walk
+    shown_walk = walk_there agree walk is_walk
 
     pub searched : IsFresh played cache start walk → 0 + length walk ≡ spent → IsSearched shown start cache limit spent walk
     searched fresh count = record {
       is_walk = shown_walk;
-      fresh = fresh_there list (after_step rules) (Won rules) (Won rules) Keyed Same' start agree cache walk trail_in fresh;
+      fresh = fresh_there agree cache walk trail_in fresh;
       count = omega (arith, count);
       within = within;
     }
 
     pub followed : (z : List Step) → Follows played start walk z → Follows shown start walk z
-    followed z follows = next_there list (after_step rules) (Won rules) (Won rules) Keyed Same' start agree walk z is_walk follows
+    followed z follows = next_there agree walk z is_walk follows
 
     pub closed : IsClosed played start walk → IsClosed shown start walk
-    closed h = closed_there list (after_step rules) (Won rules) (Won rules) Keyed Same' start agree walk is_walk h
+    closed h = closed_there agree walk is_walk h
 
     -- a clean trail that follows the walk, and the two together fresh
     pub spent_all : spent ≡ limit → (z : List Step) → IsClean played start z → Follows played start walk z → IsFresh played cache start (walk ++ z ∷ [])
@@ -63,9 +63,9 @@ module _ (rules : RuleParts) (list : Board → List Step) (Keyed Same' : Board �
     spent_all all z is_clean follows fresh = record {
       spent = all;
       further = z;
-      clean = clean_there list (after_step rules) (Won rules) (Won rules) Keyed Same' start agree z is_clean;
+      clean = clean_there agree z is_clean;
       follows = followed z follows;
-      fresh = fresh_there list (after_step rules) (Won rules) (Won rules) Keyed Same' start agree cache (walk ++ z ∷ [])
+      fresh = fresh_there agree cache (walk ++ z ∷ [])
           (λ l listed. ⊎_elim (λ old. trail_in l old) (λ new. subst (IsTrail played start) new is_clean.steps) (Contains-push_cases walk z l listed)) fresh;
     }
 
@@ -93,7 +93,7 @@ module _ (rules : RuleParts) (list : Board → List Step) (Keyed Same' : Board �
   no_win-spent answer = record {
     walk = answer.walk;
     searched = searched answer.walk answer.is_walk answer.fresh answer.count;
-    ends = inr (spent_all answer.walk answer.is_walk answer.ends.0 answer.ends.1 answer.ends.2 answer.ends.3 answer.ends.4);
+    ends = inr (spent_all answer.walk answer.is_walk (answer.spent_all refl) answer.ends.0 answer.ends.1 answer.ends.2 answer.ends.3);
   }
 
 -- a trail that repeats no board and meets no won one does not start on a won one
@@ -123,7 +123,7 @@ won_start rules game start cache limit line nodes h lost = by_walk h.walk h.sear
 
 -- the plain game
 module _ (rules : RuleParts) (start : Board) (cache limit spent : ℕ)
-    (agree : Agree (steps rules) (after_step rules) (Won rules) (Won rules) (keyed_game rules).Same (Same rules) start)
+    (agree : Agree (keyed_game rules) (Won rules) (Same rules) start)
     (within : spent ≤ limit) where
   pub winnable : (trail : List Step) → IsPlayable rules → IsAnswer (keyed_game rules) start cache 0 spent limit (found.Won trail)
       → FindsWin (plain_game rules) rules start cache limit (expand_trail rules start trail) spent
@@ -160,7 +160,7 @@ module _ (rules : RuleParts) (start : Board) (cache limit spent : ℕ)
   undecided answer =
       let is_searched = searched rules (steps rules) (keyed_game rules).Same (Same rules) start cache limit spent agree within answer.walk answer.is_walk answer.fresh answer.count in
       let ends = spent_all rules (steps rules) (keyed_game rules).Same (Same rules) start cache limit spent agree within answer.walk answer.is_walk
-      answer.ends.0 answer.ends.1 answer.ends.2 answer.ends.3 answer.ends.4 in
+      (answer.spent_all refl) answer.ends.0 answer.ends.1 answer.ends.2 answer.ends.3 in
       record {
         walk = answer.walk;
         searched = is_searched;

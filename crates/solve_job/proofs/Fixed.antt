@@ -21,7 +21,7 @@ use Rattle.search_space.proofs.Alike.{plain_game-is_alike}
 use Rattle.same_boards.specs.Same.{Same}
 use Rattle.solve_job.specs.declared.limits.Limits.{Limits}
 use Rattle.solve_job.proofs.Lines.{trail_end}
-use Rattle.solve_job.specs.Verdicts.{IsVerdict, IsPassed, nodes_of, narrow_nodes_of}
+use Rattle.solve_job.specs.Verdicts.{IsSearched, IsVerdict, IsPassed, nodes_of, narrow_nodes_of}
 
 -- where the start is not winnable, no line wins
 pub no_line_wins : (rules : RuleParts) (start : Board) (moves : List Move) (last : Board) → ¬ Winnable rules start
@@ -52,10 +52,7 @@ Ends rules start limit walk (verdict.Undecided nodes narrow_nodes) =
 -- what a verdict rests on
 record Rests (rules : RuleParts) (start : Board) (cache limit : ℕ) (v : Verdict) : Type 0 where
   walk : List (List Step)
-  is_walk : IsWalk (plain_game rules) start walk
-  fresh : IsFresh (plain_game rules) cache start walk
-  count : length walk ≡ nodes_of v
-  within : length walk ≤ limit
+  searched : IsSearched (plain_game rules) start cache limit (nodes_of v) walk
   ends : Ends rules start limit walk v
   no_narrow : narrow_nodes_of v ≡ 0
 
@@ -70,10 +67,7 @@ rests_on rules start limits (verdict.Winnable line nodes narrow_nodes) (inl is) 
     let h = is.finds in
     record {
       walk = h.walk;
-      is_walk = h.searched.is_walk;
-      fresh = h.searched.fresh;
-      count = h.searched.count;
-      within = omega (arith, h.searched.count, h.searched.within);
+      searched = h.searched;
       ends = (
         h.trail,
         h.expands,
@@ -87,10 +81,7 @@ rests_on rules start limits (verdict.Unwinnable nodes narrow_nodes) is none few 
     let h = is.0 in
     record {
       walk = h.walk;
-      is_walk = h.searched.is_walk;
-      fresh = h.searched.fresh;
-      count = h.searched.count;
-      within = omega (arith, h.searched.count, h.searched.within);
+      searched = h.searched;
       ends = h.closed;
       no_narrow = passed_none rules start limits narrow_nodes is.1 none;
     }
@@ -100,10 +91,7 @@ rests_on rules start limits (verdict.Undecided nodes narrow_nodes) is none few =
     let short : length h.walk ≤ limits.cache = omega (arith, h.searched.count, few) in
     record {
       walk = h.walk;
-      is_walk = h.searched.is_walk;
-      fresh = h.searched.fresh;
-      count = h.searched.count;
-      within = omega (arith, h.searched.count, h.searched.within);
+      searched = h.searched;
       ends = (
         h.searched.count ∙ e.spent,
         e.further,
@@ -163,10 +151,12 @@ pub one_verdict : (rules : RuleParts) (start : Board) (limits limits' : Limits) 
 one_verdict rules start limits limits' v w none none' same is_v is_w few_v few_w =
     let a = subst (λ limit. Rests rules start limits.cache limit v) same (rests_on rules start limits v is_v none few_v) in
     let b = rests_on rules start limits' w is_w none' few_w in
-    let short : length a.walk ≤ limits.cache = omega (arith, a.count, few_v) in
-    let short' : length b.walk ≤ limits'.cache = omega (arith, b.count, few_w) in
+    let short : length a.walk ≤ limits.cache = omega (arith, a.searched.count, few_v) in
+    let short' : length b.walk ≤ limits'.cache = omega (arith, b.searched.count, few_w) in
+    let within : length a.walk ≤ limits'.nodes = omega (arith, a.searched.count, a.searched.within) in
+    let within' : length b.walk ≤ limits'.nodes = omega (arith, b.searched.count, b.searched.within) in
     let walks : a.walk ≡ b.walk = one_walk (plain_game rules) start (plain_game-is_alike rules) (plain_steps rules start) limits'.nodes limits.cache limits'.cache a.walk b.walk
-    a.is_walk b.is_walk a.fresh b.fresh short short' a.within b.within
+    a.searched.is_walk b.searched.is_walk a.searched.fresh b.searched.fresh short short' within within'
     (ended rules start limits'.nodes a.walk v a.ends) (ended rules start limits'.nodes b.walk w b.ends) in
-    let nodes : nodes_of v ≡ nodes_of w = sym a.count ∙ (ap length walks ∙ b.count) in
-    one_ending rules start limits'.nodes b.walk b.is_walk v w (subst (λ walk. Ends rules start limits'.nodes walk v) walks a.ends) b.ends nodes (a.no_narrow ∙ sym b.no_narrow)
+    let nodes : nodes_of v ≡ nodes_of w = sym a.searched.count ∙ (ap length walks ∙ b.searched.count) in
+    one_ending rules start limits'.nodes b.walk b.searched.is_walk v w (subst (λ walk. Ends rules start limits'.nodes walk v) walks a.ends) b.ends nodes (a.no_narrow ∙ sym b.no_narrow)

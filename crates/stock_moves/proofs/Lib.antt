@@ -1,4 +1,3 @@
 pub mod WasteCarries
 pub mod Going
-pub mod Returning
 pub mod StepMoves

@@ -1,6 +1,7 @@
 -- The legal carries from the waste, place by place.
 use Rattle.std.proofs.Common.{◌≡◌, ℕ, Bool, true, false, List, [], ◌∷◌, ◌++◌, map, length, refl, ap, ◌∙◌, append-nil}
-use Rattle.std.specs.Prelude.{cond}
+use Rattle.std.proofs.Common.{append_assoc}
+use Rattle.std.specs.Prelude.{cond, not, ◌&&◌}
 use Rattle.std.specs.List.{filter, flat_map, range_with_len}
 use Rattle.std.proofs.lemmas.List.{map-append}
 use Rattle.std.proofs.lemmas.List.Elements.{filter-append}
@@ -10,14 +11,16 @@ use Rattle.game_rules.specs.declared.Move.{Move}
 use Rattle.game_rules.specs.declared.Move.TheVariants.{Carry, Deal, Redeal}
 use Rattle.game_rules.specs.declared.Place.{Place}
 use Rattle.game_rules.specs.declared.Place.TheVariants.{Tableau, Cell, Reserve, Waste, Foundation, Slot}
-use Rattle.game_rules.specs.Board.{Board}
-use Rattle.game_rules.specs.Taking.{most_taken}
-use Rattle.game_rules.specs.Play.{is_legal_move}
-use Rattle.game_rules.specs.Order.{entry_count, sources, targets}
+use Rattle.game_rules.specs.Board.{Board, has_place}
+use Rattle.game_rules.specs.Taking.{most_taken, can_take, taken}
+use Rattle.game_rules.specs.Putting.{can_put}
+use Rattle.game_rules.specs.Play.{is_legal_move, same_place}
+use Rattle.game_rules.specs.Order.{entry_count, hole_place, sources, targets}
 use Rattle.game_rules.proofs.Listing.{filter-flat_map, legal_between, legal_to, legal_moves-by_place}
 use Rattle.stock_steps.specs.declared.Step.{Step}
 use Rattle.stock_steps.specs.Steps.{is_from_waste, steps_from, waste_carries}
-use Rattle.stock_moves.specs.Onto.{steps_onto}
+use Rattle.stock_moves.specs.declared.onto.Kind.TheVariants.{Foundations, Slots, Piles, Cells}
+use Rattle.stock_moves.specs.Onto.{place_in, steps_onto}
 
 -- a move that fails the one test is passed by, whatever the other says
 passed_by : (p : Move → Bool) (t : Bool) (m : Move) (ms : List Move) → p m ≡ false → filter p ms ≡ [] → filter p (cond t (m ∷ ms) ms) ≡ []
@@ -100,3 +103,46 @@ waste_carries-onto rules board deals =
     (λ to. filter (is_legal_move rules board) (Carry Waste to 1 ∷ [])) (targets rules board) (waste_to rules board) in
     ap (steps_from deals) kept
     ∙ steps_from-flat_map deals (λ to. filter (is_legal_move rules board) (Carry Waste to 1 ∷ [])) (targets rules board)
+
+-- and these are listed kind by kind
+pub waste_carries-listed : (rules : RuleParts) (board : Board) (deals foundations slots piles cells : ℕ)
+    (none some more most all steps : List Step)
+    → foundations ≡ length board.heights → slots ≡ length board.slots → piles ≡ length board.piles
+    → cells ≡ length board.cells
+    → some ≡ none ++ flat_map (steps_onto rules board deals) (map (place_in Foundations) (range_with_len 0 foundations))
+    → more ≡ some ++ flat_map (steps_onto rules board deals) (hole_place rules)
+    → most ≡ more ++ flat_map (steps_onto rules board deals) (map (place_in Slots) (range_with_len 0 slots))
+    → all ≡ most ++ flat_map (steps_onto rules board deals) (map (place_in Piles) (range_with_len 0 piles))
+    → steps ≡ all ++ flat_map (steps_onto rules board deals) (map (place_in Cells) (range_with_len 0 cells))
+    → steps ≡ none ++ steps_from deals (waste_carries rules board)
+waste_carries-listed rules board deals foundations slots piles cells none some more most all steps f s p c a b d e g =
+    rw (waste_carries-onto rules board deals, g, e, d, b, a, f, s, p, c) (simp (flat_map-append, append_assoc) refl)
+
+-- a conjunction is false if its fourth part is
+fourth_fails : (a b c d e : Bool) → d ≡ false → (a && b && c && d && e) ≡ false
+fourth_fails false b c d e fails = refl
+fourth_fails true false c d e fails = refl
+fourth_fails true true false d e fails = refl
+fourth_fails true true true d e fails = rw fails refl
+
+-- an empty waste gives no card to a place
+no_card_to : (rules : RuleParts) (board : Board) (to : Place) → board.waste ≡ []
+    → is_legal_move rules board (Carry Waste to 1) ≡ false
+no_card_to rules board to empty =
+    fourth_fails (has_place rules board Waste) (has_place rules board to) (not (same_place Waste to))
+    (can_take rules board Waste 1) (can_put rules board to (taken rules board Waste 1)) (rw empty refl)
+
+none_onto : (rules : RuleParts) (board : Board) (deals : ℕ) (to : Place) → board.waste ≡ []
+    → steps_onto rules board deals to ≡ []
+none_onto rules board deals to empty = rw (no_card_to rules board to empty) refl
+
+flat_map-empty : (f : Place → List Step) (xs : List Place) → ((x : Place) → f x ≡ []) → flat_map f xs ≡ []
+flat_map-empty f [] none = refl
+flat_map-empty f (x ∷ xs) none = rw (none x) (flat_map-empty f xs none)
+
+-- no card is carried from an empty waste
+pub waste_carries-empty : (rules : RuleParts) (board : Board) (deals : ℕ) → board.waste ≡ []
+    → steps_from deals (waste_carries rules board) ≡ []
+waste_carries-empty rules board deals empty =
+    waste_carries-onto rules board deals
+    ∙ flat_map-empty (steps_onto rules board deals) (targets rules board) (λ to. none_onto rules board deals to empty)

@@ -3,11 +3,12 @@
 //! The stock is dealt out move by move, and each board on the way gives its carries from the waste.
 //! If redeals are unlimited, the run ends at the first board that comes again: stock moves only
 //! shift the border between stock and waste, so the length of the stock tells the board.
-ghost use Rattle.std.specs.Prelude.{◌≡◌, ◌≢◌, ℕ, ◌↔◌, ◌++◌, IsTrue, OnOk, OnErr};
+ghost use Rattle.std.specs.Prelude.{◌≡◌, ◌≢◌, ◌↔◌, ◌++◌, IsTrue, OnOk, OnErr};
 ghost use Rattle.game_rules.specs.Belonging.{Belongs};
 ghost use Rattle.game_rules.specs.Rules.{deals_to_waste};
-ghost use Rattle.game_rules.specs.StockMoves.{after_stock_moves};
-ghost use Rattle.packed_state.specs.Packed.{board_of, is_stacked};
+ghost use Rattle.packed_state.specs.declared.stock.StockUndo.{StockUndo};
+ghost use Rattle.packed_state.specs.Packed.{board_of};
+ghost use Rattle.packed_state.specs.StockRuns.{before_run};
 ghost use Rattle.stock_steps.specs.Steps.{stock_steps};
 ghost use Rattle.stock_moves.specs.GoesOn.{GoesOn, next_stock};
 ghost use Rattle.legal_moves.specs.Offers.{StartsWith};
@@ -62,14 +63,13 @@ fn goes_on(rules: &Rules, packed: &Packed, first: u8, emptied: bool) -> bool
     }
 }
 
-/// Appends the stock steps, and makes stock moves on the way.
+/// Appends the stock steps, and makes stock moves on the way, which earlier notes take back too.
 fn list_along(rules: &Rules, packed: &mut Packed, out: &mut Vec<Step>) -> Result<(), AllocError>
     requires belongs { Belongs rules.now (board_of packed.old) }
     requires to_waste { IsTrue (deals_to_waste rules.now.target) }
     ensures listed { OnOk result (out.new.items ≡ out.old.items ++ stock_steps rules.now (board_of packed.old)) }
     ensures begun { OnErr result (StartsWith out.new.items out.old.items) }
-    ensures moved { (k : ℕ) × (board_of packed.new ≡ after_stock_moves rules.now k (board_of packed.old)) }
-    ensures stacked { is_stacked packed.new ≡ is_stacked packed.old }
+    ensures same_notes { (undo : StockUndo) → before_run undo packed.new ≡ before_run undo packed.old }
 {
     // This call brings that the rules are playable.
     let _ = rules.parts();

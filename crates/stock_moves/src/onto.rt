@@ -10,7 +10,7 @@ ghost use Rattle.stock_moves.specs.Onto.{place_in, steps_onto};
 
 use game_model::Rules;
 use game_rules::{Move, Place};
-use packed_state::Packed;
+use packed_state::{Packed, Spot};
 use std::alloc::AllocError;
 use stock_steps::Step;
 
@@ -104,6 +104,10 @@ pub(crate) fn push_waste_carries(
     ensures ok { OnOk result (out.new.items ≡ out.old.items ++ steps_from deals (waste_carries rules.now (board_of packed.now))) }
     ensures err { OnErr result (StartsWith out.new.items out.old.items) }
 {
+    // A game without a stock asks no place for a card that is not there.
+    if packed.size(Spot::Waste) == 0 {
+        return Ok(());
+    }
     let foundations = rules.foundation_count();
     push_onto_each(rules, packed, deals, Kind::Foundations, foundations, out)?;
     push_into_hole(rules, packed, deals, out)?;

@@ -105,7 +105,7 @@ fn packs(
     if !packed.is_legal(rules, legal) {
         return Ok(false);
     }
-    let told = tells(alloc, rules, &packed.board, legal, illegal)?;
+    let told = tells(alloc, rules, &packed, legal, illegal)?;
     let undo = packed.go(rules, legal);
     let moved = packed.to_board(alloc, rules)?;
     packed.back(undo);

@@ -1,5 +1,5 @@
 //! Eight games, three moves deep: both forms of a board list the same moves, and every move, and
-//! stock moves at once, are made, taken back, and leave the board as it was.
+//! stock moves at once, are made, taken back, and leave each slot and each link as it was.
 ghost use Rattle.std.specs.Prelude.{◌≡◌, not, IsTrue, IfSome, OnOk, IfOk};
 ghost use Rattle.game_rules.specs.Rules.{deals_to_waste};
 ghost use Rattle.game_rules.specs.Belonging.{Belongs};
@@ -8,6 +8,7 @@ ghost use Rattle.game_rules.specs.StockMoves.{is_carry};
 ghost use Rattle.packed_state.specs.Packed.{board_of};
 
 use crate::Packed;
+use crate::tests::traces::Trace;
 use card_piles::Card;
 use game_model::{Board, BoardParts, Face, Goal, Items, Rules, Target};
 use game_rules::{Move, suit_at};
@@ -163,6 +164,7 @@ fn run_stock_moves(
     ensures { OnOk result (packed.new ≡ packed.old) }
 {
     let board = packed.to_board(alloc, rules)?;
+    let trace = Trace::of(packed);
     let mut single = Packed::from_board(rules, &board);
     for made in 0..most {
         let Some(m) = next_stock_move(rules, &single) else {
@@ -173,8 +175,7 @@ fn run_stock_moves(
         let undo = packed.run_stock(rules, made + 1);
         let leads_there = same_boards(rules, &packed.to_board(alloc, rules)?, &there);
         packed.unrun_stock(undo);
-        let leads_back = same_boards(rules, &packed.to_board(alloc, rules)?, &board);
-        if !leads_there || !leads_back {
+        if !leads_there || !trace.is_of(packed) {
             return Ok(false);
         }
     }
@@ -194,6 +195,7 @@ fn walk(alloc: Global, rules: &Rules, packed: &mut Packed, depth: u8) -> Result<
         return Ok(None);
     }
     let board = packed.to_board(alloc, rules)?;
+    let trace = Trace::of(packed);
     let mut moves = Vec::new(alloc);
     packed.list_moves(alloc, rules, &mut moves)?;
     let mut others = Vec::new(alloc);
@@ -209,8 +211,7 @@ fn walk(alloc: Global, rules: &Rules, packed: &mut Packed, depth: u8) -> Result<
         let undo = packed.go(rules, *m);
         let below = walk(alloc, rules, packed, depth - 1)?;
         packed.back(undo);
-        let returned = packed.to_board(alloc, rules)?;
-        let (true, Some(below)) = (same_boards(rules, &returned, &board), below) else {
+        let (true, Some(below)) = (trace.is_of(packed), below) else {
             return Ok(None);
         };
         made = made.saturating_add(below).saturating_add(1);

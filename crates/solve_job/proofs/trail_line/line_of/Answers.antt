@@ -3,7 +3,7 @@ use Rattle.game_rules.specs.declared.RuleParts.{RuleParts}
 use Rattle.game_rules.specs.declared.Move.TheVariants.{Carry}
 use Rattle.game_rules.specs.declared.Place.TheVariants.{Tableau}
 use Rattle.game_rules.specs.Board.{Board}
-use Rattle.game_rules.specs.Play.{after}
+use Rattle.game_rules.specs.Play.{Legal, after}
 use Rattle.packed_state.specs.Packed.{board_of}
 use Rattle.stock_steps.specs.declared.Step.{Step}
 use Rattle.stock_steps.specs.Steps.{CanAllBeMade, after_step, expand_trail}
@@ -13,6 +13,13 @@ use Rattle.solve_job.proofs.trail_line.line_of.Goals as goal
 -- a step to name what lies past the end of a trail
 abbrev blank : Step
 blank = record { deals = 0; last = Carry (Tableau 0) (Tableau 0) 0 }
+
+pub go-requires-clause-legal : goal.go-requires-clause-legal
+go-requires-clause-legal c =
+    let made = subst (λ (ts : List Step). CanAllBeMade c.args.rules.now (board_of c.loop-step.packed) ts)
+    (drop-step c.args.trail.now c.loop-step.step-index blank c.loop-step-test.true) c.loop-step.invariant.1 in
+    subst (λ (b : Board). Legal c.args.rules.now b (get_or c.args.trail.now c.loop-step.step-index blank).last)
+    (sym c.run_stock.ensures.moved) made.0.last
 
 pub loop-step-preserved : goal.loop-step-preserved
 loop-step-preserved c =

@@ -8,7 +8,8 @@ use Rattle.stock_steps.proofs.StepLines.{playable_draw, run_short}
 use Rattle.stock_steps.proofs.StockList.{stock_steps-by_run}
 use Rattle.legal_moves.proofs.Offered.{StartsWith-append}
 use Rattle.stock_moves.specs.GoesOn.{GoesOn}
-use Rattle.stock_moves.proofs.Going.{board-more, boards_of, listed-more, run-more, run-whole, steps_upto, underway-first, underway-next}
+use Rattle.stock_moves.proofs.Going.{has-one, board-more, boards_of}
+use Rattle.stock_moves.proofs.Going.{listed-more, run-more, run-whole, steps_upto, underway-first, underway-next}
 use Rattle.stock_moves.proofs.listing.list_along.Goals.{then-emptied, else-emptied}
 use Rattle.stock_moves.proofs.listing.list_along.Goals as goal
 
@@ -18,12 +19,17 @@ loop-packed-init c =
     let board : Board = board_of c.args.packed.now in (
       underway-first rules board c.size-first.result c.size-first.ensures,
       refl,
-      refl,
+      λ undo. refl,
       c.requires.belongs,
       c.in_ok-push_waste_carries.ensures.ok
           ∙ ap (λ (xs : List Step). c.args.out.now.items ++ xs) (sym (append-nil (steps_from 0 (waste_carries rules board)))),
       omega arith,
     )
+
+pub run_stock-requires-clause-so_many : goal.run_stock-requires-clause-so_many
+run_stock-requires-clause-so_many c =
+    has-one c.args.rules.now (board_of c.loop-packed.packed) c.size-first.result c.loop-packed.emptied
+    c.requires.to_waste (c.goes_on.ensures.0 c.loop-packed-test.true)
 
 pub loop-packed-preserved : goal.loop-packed-preserved
 loop-packed-preserved c =
@@ -39,7 +45,10 @@ loop-packed-preserved c =
     let now : c.if-emptied.emptied ≡ (c.loop-packed.emptied || (length (boards_of rules board (suc deals)).stock == 0)) =
     elim c.if-emptied.branch [
       | then-emptied w ↦ rw (w.emptied-is, w.if-emptied.true) refl
-      | else-emptied w ↦ rw (w.emptied-is, w.if-emptied.false, w.size.ensures, moved) refl
+      | else-emptied w ↦
+          let size : w.size.result ≡ length (boards_of rules board (suc deals)).stock =
+          w.size.ensures ∙ ap (λ (b : Board). length b.stock) moved in
+          rw (w.emptied-is, w.if-emptied.false, size) refl
     ] in
     let more : suc deals ≡ deals + 1 = omega arith in
     let short : suc deals < 8500 =
@@ -50,7 +59,7 @@ loop-packed-preserved c =
     rw (sym more) (
       underway-next rules board deals c.size-first.result c.loop-packed.emptied c.if-emptied.emptied draws c.requires.to_waste inv.0 on now,
       moved,
-      c.run_stock.ensures.stacked ∙ inv.2,
+      λ undo. c.run_stock.ensures.same_notes undo ∙ inv.2 undo,
       c.run_stock.ensures.belongs,
       listed,
       short,
@@ -65,13 +74,10 @@ returns-in_err-push_waste_carries-2-clause-begun c =
           c.loop-packed.invariant.4 c.in_err-push_waste_carries-2.ensures.err,
     )
 
-pub returns-in_err-push_waste_carries-2-clause-moved :
-    goal.returns-in_err-push_waste_carries-2-clause-moved
-returns-in_err-push_waste_carries-2-clause-moved c = (
-  suc c.loop-packed.deals,
-  c.run_stock.ensures.moved
-      ∙ board-more c.args.rules.now (board_of c.args.packed.now) (board_of c.loop-packed.packed) c.loop-packed.deals c.loop-packed.invariant.1,
-)
+pub returns-in_err-push_waste_carries-2-clause-same_notes :
+    goal.returns-in_err-push_waste_carries-2-clause-same_notes
+returns-in_err-push_waste_carries-2-clause-same_notes c =
+    λ undo. c.run_stock.ensures.same_notes undo ∙ c.loop-packed.invariant.2 undo
 
 pub returns-clause-listed : goal.returns-clause-listed
 returns-clause-listed c =

@@ -1,10 +1,19 @@
-use Rattle.std.proofs.Common.{sym, subst}
+use Rattle.std.proofs.Common.{ap, sym, subst, ◌∙◌}
 use Rattle.std.specs.Prelude.{IsSome}
 use Rattle.search_space.specs.Plain.{Standing, before_of}
-use Rattle.search_space.proofs.Returning.{belongs-before}
+use Rattle.search_space.proofs.Returning.{belongs-before, before_of-some}
 use Rattle.search_space.proofs.space.PlainSpaceSpace.back.Goals as goal
 
 pub invariant_of-self : goal.invariant_of-self
 invariant_of-self c =
     let some = subst (λ (s : Standing). IsSome (before_of c.args.undo s)) (sym c.self.view_is) c.requires in
     (c.self.invariant.0, belongs-before c.self.inside.rules.now c.args.undo c.self.inside.packed c.back_step.new.packed c.self.invariant.0 some c.back_step.ensures)
+
+pub returns : goal.returns
+returns c =
+    let some = subst (λ (s : Standing). IsSome (before_of c.args.undo s)) (sym c.self.view_is) c.requires in
+    let belongs = belongs-before c.self.inside.rules.now c.args.undo c.self.inside.packed c.back_step.new.packed
+    c.self.invariant.0 some c.back_step.ensures in
+    sym (ap (before_of c.args.undo) c.self.view_is)
+    ∙ before_of-some c.self.inside.rules.now c.args.undo c.self.inside.packed c.back_step.new.packed
+    c.self.invariant.0 belongs c.back_step.ensures

@@ -1,7 +1,7 @@
 use Rattle.std.proofs.Common.{ap, sym, subst, ◌∙◌, Contains}
 use Rattle.std.specs.Prelude.{Some, ◌↔◌}
 use Rattle.game_rules.specs.Winning.{Wins}
-use Rattle.stock_steps.specs.Steps.{steps}
+use Rattle.stock_steps.specs.Steps.{after_step, steps}
 use Rattle.stock_steps.proofs.StepLines.{playable_draw, steps-made}
 use Rattle.packed_state.specs.Packed.{board_of}
 use Rattle.search_space.specs.Plain.{Standing}
@@ -21,3 +21,8 @@ returns-clause-undo c =
 pub returns-clause-wins : goal.returns-clause-wins
 returns-clause-wins c = λ n board.
     subst (λ (s : Standing). Wins c.self.inside.rules.now n board ↔ Wins s.rules n board) c.self.view_is (λ wins. wins, λ wins. wins)
+
+pub returns-clause-state : goal.returns-clause-state
+returns-clause-state c =
+    c.go_step.ensures.moved
+    ∙ ap (λ (s : Standing). after_step s.rules (board_of s.packed) c.args.step) c.self.view_is

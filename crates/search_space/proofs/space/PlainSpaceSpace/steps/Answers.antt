@@ -8,8 +8,8 @@ use Rattle.search_space.proofs.space.PlainSpaceSpace.steps.Goals as goal
 
 pub returns-clause-ok : goal.returns-clause-ok
 returns-clause-ok c =
-    subst (λ (s : Standing). OnOk c.list_steps.result (c.list_steps.new.out.items ≡ c.args.out.now.items ++ steps s.rules (board_of s.packed)))
-    c.self.view_is c.list_steps.ensures.listed
+    subst (λ (s : Standing). OnOk c.list_or_leave.result (c.list_or_leave.new.out.items ≡ c.args.out.now.items ++ steps s.rules (board_of s.packed)))
+    c.self.view_is c.list_or_leave.ensures.listed
 
 pub returns-clause-differ : goal.returns-clause-differ
 returns-clause-differ c = steps-apart c.args.self.now.rules (board_of c.args.self.now.packed)

@@ -1,6 +1,0 @@
-use Rattle.std.proofs.Common.{◌≡◌, ◌++◌, map, take}
-use Rattle.same_boards.specs.Keys.{card_bytes}
-use Rattle.pile_symmetry.proofs.lines.put_cards.Given as goal
-
-abbrev pub invariant-loop-card : goal.invariant-loop-card
-invariant-loop-card g l = l.key ≡ l.initial.key ++ card_bytes (map g.R.Reader.shown (take l.card-index l.cards))

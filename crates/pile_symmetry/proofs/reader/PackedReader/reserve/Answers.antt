@@ -1,6 +1,0 @@
-use Rattle.std.proofs.Common.{◌∙◌}
-use Rattle.pile_symmetry.proofs.Shown.{entries-themselves}
-use Rattle.pile_symmetry.proofs.reader.PackedReader.reserve.Goals as goal
-
-pub returns : goal.returns
-returns c = entries-themselves c.reserve.result.now ∙ c.reserve.ensures

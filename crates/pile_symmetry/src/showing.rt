@@ -1,0 +1,87 @@
+//! What a key shows of cards.
+ghost use Rattle.std.specs.Prelude.{◌≡◌, ◌+◌, ◌≤◌, ◌++◌, map, length, reverse};
+ghost use Rattle.std.specs.Option.{option_map};
+ghost use Rattle.card_piles.specs.declared.Card.{Card};
+ghost use Rattle.same_boards.specs.Keys.{card_byte, card_bytes, entry_byte};
+ghost use Rattle.same_boards.specs.Colours.{coloured};
+
+use crate::key::Key;
+use crate::reader::Colours;
+use card_piles::Card;
+use game_model::Board;
+use packed_state::{Cards, Packed};
+
+/// The card that a key shows in the place of each card.
+pub(crate) trait Shows {
+    /// The card that is shown.
+    ghost shown: { Card → Card };
+
+    /// The byte of the card that is shown.
+    fn byte_of(card: Card) -> u8
+        ensures { result ≡ card_byte (shown card) };
+}
+
+impl Shows for Board {
+    ghost shown = { λ card. card };
+
+    fn byte_of(card: Card) -> u8 {
+        card.number() + 1
+    }
+}
+
+impl Shows for Packed {
+    ghost shown = { λ card. card };
+
+    fn byte_of(card: Card) -> u8 {
+        card.number() + 1
+    }
+}
+
+impl<'a> Shows for Colours<'a> {
+    ghost shown = { coloured };
+
+    fn byte_of(card: Card) -> u8
+        ensures { result ≡ card_byte (coloured card) }
+    {
+        if card.is_red() {
+            card.rank() + 13
+        } else {
+            card.rank()
+        }
+    }
+}
+
+/// The byte of what is shown of an entry.
+pub(crate) fn entry_byte<S: Shows>(entry: Option<Card>) -> u8
+    ensures { result ≡ entry_byte (option_map S.shown entry) }
+{
+    match entry {
+        Some(card) => S::byte_of(card),
+        None => 0,
+    }
+}
+
+/// Puts what is shown of cards.
+pub(crate) fn put_cards<S: Shows>(cards: &[Card], key: &mut Key)
+    requires { length key.old + length cards.now ≤ 176 }
+    ensures { key.new ≡ key.old ++ card_bytes (map S.shown cards.now) }
+{
+    for card in cards {
+        key.put(S::byte_of(*card));
+    }
+}
+
+/// Puts what is shown of cards that come from the top down, the last of them first.
+pub(crate) fn put_from_below<S: Shows>(cards: Cards<'_>, key: &mut Key)
+    requires { length key.old + length cards ≤ 176 }
+    ensures { key.new ≡ key.old ++ reverse (card_bytes (map S.shown cards.entry)) }
+{
+    // The bytes are written from the end of a buffer towards its front.
+    let mut bytes = [0u8; 176];
+    let mut at: usize = 176;
+    for card in cards {
+        at -= 1;
+        bytes[at] = S::byte_of(card);
+    }
+    key.put_bytes(&bytes[at..]);
+}
