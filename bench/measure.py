@@ -35,6 +35,15 @@ DEALS = [
     ("Golf, seed 1", "golf.json", 1),
     ("Gaps, seed 1", "gaps.json", 1),
     ("Little Cell, lost", "little-cell.json", "little-cell-lost.json"),
+    ("Baker's Game, 9", "bakers-game.json", 9),
+    ("ForeCell, 5", "forecell.json", 5),
+    ("Eight Off, 5", "eight-off.json", 5),
+    ("Seahaven Towers, 3", "seahaven-towers.json", 3),
+    ("Penguin, 7", "penguin.json", 7),
+    ("Streets and Alleys, 3", "streets-and-alleys.json", 3),
+    ("Flower Garden, 1", "flower-garden.json", 1),
+    ("King Albert, 1", "king-albert.json", 1),
+    ("Baker's Dozen, 1", "bakers-dozen.json", 1),
 ]
 
 CACHES = ["1", "100000", "4000000"]
@@ -98,23 +107,23 @@ def head_of(text):
 
 
 def compare_programs(programs, nodes, cache, rounds):
-    print(f"{'game':20} {'verdict':11} {'nodes':>10} {'seconds':>8} {'nodes/s':>9} {'bytes':>13} {'ratio':>6}")
+    print(f"{'game':21} {'verdict':11} {'nodes':>10} {'seconds':>8} {'nodes/s':>9} {'bytes':>13} {'ratio':>6}")
     for game, rules, deal in DEALS:
         words = ["solve", *start_of(rules, deal), "--nodes", nodes, *cache]
         found = measure([[program, *words] for program in programs], rounds)
         rates = []
         for one in found:
             if one is None:
-                print(f"{game:20} refused")
+                print(f"{game:21} refused")
                 continue
             verdict, spent = head_of(one[0])
             rates.append(spent / one[1])
             ratio = f"{rates[-1] / rates[0]:6.2f}" if len(rates) > 1 else ""
-            print(f"{game:20} {verdict:11} {spent:10,} {one[1]:8.3f} {rates[-1]:9,.0f} {one[2]:13,} {ratio}")
+            print(f"{game:21} {verdict:11} {spent:10,} {one[1]:8.3f} {rates[-1]:9,.0f} {one[2]:13,} {ratio}")
 
 
 def compare_memos(program, nodes, rounds):
-    print(f"{'game':20} {'cache':>9} {'memo':6} {'nodes':>10} {'nodes/s':>9} {'bytes':>13} {'a key':>6} {'ratio':>6}")
+    print(f"{'game':21} {'cache':>9} {'memo':6} {'nodes':>10} {'nodes/s':>9} {'bytes':>13} {'a key':>6} {'ratio':>6}")
     for game, rules, deal in DEALS:
         least = {}
         for cache in CACHES:
@@ -129,7 +138,7 @@ def compare_memos(program, nodes, rounds):
                 kept = min(spent, int(cache))
                 a_key = f"{(found[i][2] - least[memo]) / kept:6.0f}" if kept > 1000 else f"{'':6}"
                 ratio = f"{rates[1] / rates[0]:6.2f}" if i else ""
-                print(f"{game:20} {cache:>9} {memo:6} {spent:10,} {rates[i]:9,.0f} {found[i][2]:13,} {a_key} {ratio}")
+                print(f"{game:21} {cache:>9} {memo:6} {spent:10,} {rates[i]:9,.0f} {found[i][2]:13,} {a_key} {ratio}")
 
 
 def main():
