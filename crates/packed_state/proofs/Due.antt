@@ -1,8 +1,8 @@
 -- What each place should have, kind by kind, and the board that it makes.
-use Rattle.std.proofs.Common.{◌≡◌, ◌≢◌, ℕ, zero, suc, ◌+◌, ◌-◌, ◌<◌, ◌≤◌, Bool, true, false, ◌&&◌, ◌||◌}
-use Rattle.std.proofs.Common.{List, [], ◌∷◌, map, length, get_or, reverse, refl, sym, ap, ap₂, ◌∙◌, subst, arith}
+use Rattle.std.proofs.Common.{◌≡◌, ◌≢◌, ℕ, ◌+◌, ◌-◌, ◌<◌, ◌≤◌, Bool, true, false, ◌&&◌}
+use Rattle.std.proofs.Common.{List, map, length, reverse, refl, sym, ap, ap₂, ◌∙◌, arith}
 use Rattle.std.proofs.Common.{inl, inr}
-use Rattle.std.specs.Prelude.{Option, Some, None, nat_lt, nat_le, nat_eq, if◌then◌else◌, cond, is_some}
+use Rattle.std.specs.Prelude.{Option, Some, None, nat_lt, nat_le, nat_eq, if◌then◌else◌}
 use Rattle.std.specs.Option.{option_to_list}
 use Rattle.std.specs.List.{range_with_len}
 use Rattle.std.proofs.lemmas.Bool.{cases_lt}
@@ -13,7 +13,7 @@ use Rattle.card_piles.specs.declared.Card.{Card}
 use Rattle.game_rules.specs.declared.RuleParts.{RuleParts}
 use Rattle.game_rules.specs.Rules.{takes_complete_runs}
 use Rattle.game_rules.specs.Board.{Board, Pile, empty_pile, pile_at, entry_at, height_at, top_of}
-use Rattle.game_rules.specs.Board.{foundation_card, foundation_cards}
+use Rattle.game_rules.specs.Board.{foundation_card}
 use Rattle.packed_state.specs.declared.Shape.{Shape}
 use Rattle.packed_state.specs.Packed.{IsSmall, board_by, home_cards, is_inside, no_card}
 use Rattle.packed_state.specs.Packing.{shape_of, cards_due}

@@ -16,7 +16,7 @@ use Rattle.card_links.proofs.Following.{follow_more}
 use Rattle.packed_state.specs.declared.Shape.{Shape}
 use Rattle.packed_state.specs.declared.Spot.{Spot}
 use Rattle.packed_state.specs.declared.Spot.TheVariants.{Pile, Cell, Reserve, Stock, Waste, Hole, Slot}
-use Rattle.packed_state.specs.Packed.{Linked, IsLinked, is_inside, is_single, cards_at, card_of, board_of, is_stacked}
+use Rattle.packed_state.specs.Packed.{Linked, IsLinked, is_inside, is_single, cards_at, board_of, is_stacked}
 use Rattle.packed_state.specs.Spots.{card_at, under_top, in_entry}
 use Rattle.packed_state.specs.Spots.{size_at as spot_size}
 use Rattle.packed_state.specs.Slots.{slot_on, top_slot, card_in, before_entry, under_last, under_slot, under_of}

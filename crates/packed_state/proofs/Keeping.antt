@@ -1,12 +1,11 @@
 -- Each foundation still holds the cards that the rules say.
-use Rattle.std.proofs.Common.{◌≡◌, ◌≢◌, ℕ, zero, suc, ◌+◌, ◌-◌, ◌%◌, ◌<◌, ◌≤◌, Bool, true, false, ◌&&◌, ◌||◌, List, []}
+use Rattle.std.proofs.Common.{◌≡◌, ◌≢◌, ℕ, ◌+◌, ◌-◌, ◌%◌, ◌<◌, ◌≤◌, Bool, true, false, ◌&&◌, ◌||◌, List, []}
 use Rattle.std.proofs.Common.{◌∷◌, ◌++◌, length, map}
 use Rattle.std.proofs.Common.{reverse, set, refl, sym, ap, ap₂, ◌∙◌, subst, arith, inl, inr, mod-eq_of_lt}
 use Rattle.std.specs.Prelude.{Option, Some, None, IsTrue, not, is_some, nat_eq, nat_lt, if◌then◌else◌}
 use Rattle.std.specs.List.{range_with_len}
 use Rattle.std.specs.Option.{option_to_list}
 use Rattle.std.proofs.lemmas.Bool.{cases_eq, eqb-true}
-use Rattle.std.proofs.lemmas.Bool.Decides.{nat_tests}
 use Rattle.std.proofs.lemmas.List.{set-get_or, reverse-append}
 use Rattle.std.proofs.lemmas.List.FromFn.{map-range_with_len_more}
 use Rattle.card_piles.specs.declared.Card.{Card}
@@ -28,7 +27,7 @@ use Rattle.game_rules.proofs.ListFacts.{map-range-same}
 use Rattle.game_rules.proofs.Copies.{foundation-grows}
 use Rattle.game_rules.proofs.Rooms.{suit-at_place, card-by_parts}
 use Rattle.game_rules.proofs.KeepsBelonging.{base-of_runs}
-use Rattle.card_links.specs.Chains.{Chains, top_at, size_at, slot_at, slots_of, shifted}
+use Rattle.card_links.specs.Chains.{top_at, size_at, slot_at, slots_of}
 use Rattle.packed_state.specs.declared.Shape.{Shape}
 use Rattle.packed_state.specs.Packed.{Linked, IsLinked, index_of, source_of, shape_after, is_place, cards_at, card_of}
 use Rattle.packed_state.specs.Packed.{no_card}

@@ -14,7 +14,7 @@ use Rattle.card_links.proofs.Keeping.{kept}
 use Rattle.packed_state.specs.declared.Shape.{Shape}
 use Rattle.packed_state.specs.Packed.{Linked, IsLinked, index_of, source_of, with_entries, shape_after, shape_before}
 use Rattle.packed_state.specs.Packed.{is_place, is_inside, is_single, face_at}
-use Rattle.packed_state.specs.Undoing.{CanCarry, face_of, with_face, with_card, origin_of}
+use Rattle.packed_state.specs.Undoing.{CanCarry, face_of, with_face, with_card}
 use Rattle.packed_state.specs.Packed.{IsSmall}
 
 pub below_of : (a b : ℕ) → IsTrue (nat_lt a b) → a < b

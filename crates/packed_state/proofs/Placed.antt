@@ -1,10 +1,9 @@
 -- A packed board whose first places have their cards.
-use Rattle.std.proofs.Common.{◌≡◌, ℕ, ◌+◌, ◌-◌, ◌<◌, ◌≤◌, Bool, true, false, List, [], ◌++◌}
-use Rattle.std.proofs.Common.{length, get_or, refl, sym, ap, ap₂, ◌∙◌, subst, arith, inl, inr}
-use Rattle.std.specs.Prelude.{IsTrue, nat_le, nat_eq}
+use Rattle.std.proofs.Common.{◌≡◌, ℕ, ◌+◌, ◌<◌, ◌≤◌, List, [], ◌++◌}
+use Rattle.std.proofs.Common.{length, get_or, refl, sym, ap, ◌∙◌, subst, arith, inl, inr}
+use Rattle.std.specs.Prelude.{IsTrue}
 use Rattle.std.proofs.lemmas.Bool.{cases_eq}
 use Rattle.std.proofs.lemmas.Bool.Decides.{nat_tests}
-use Rattle.card_piles.specs.declared.Card.{Card}
 use Rattle.card_links.specs.Chains.{size_at}
 use Rattle.game_rules.specs.declared.RuleParts.{RuleParts}
 use Rattle.game_rules.specs.declared.Face.{Face}
@@ -18,7 +17,6 @@ use Rattle.packed_state.specs.declared.Shape.{Shape}
 use Rattle.packed_state.specs.Packed.{Linked, IsLinked, cards_at, board_of, Added}
 use Rattle.packed_state.specs.Packed.{home_cards, HoldsFoundations}
 use Rattle.packed_state.specs.Packing.{shape_of, cards_due, with_faces}
-use Rattle.packed_state.specs.Packed.{IsSmall}
 use Rattle.packed_state.proofs.Tops.{size_is}
 use Rattle.packed_state.proofs.Due.{board_made, due_home, due_pile, length-home_cards}
 use Rattle.packed_state.proofs.Tiles.{sizes_from, one_more, no_more, all_due, small_board}

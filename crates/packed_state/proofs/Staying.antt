@@ -1,5 +1,5 @@
 -- Deals and redeals leave the foundations, and bring no slot into play.
-use Rattle.std.proofs.Common.{◌≡◌, ◌≢◌, ℕ, zero, suc, ◌+◌, ◌-◌, ◌<◌, ◌≤◌, min, refl, arith}
+use Rattle.std.proofs.Common.{◌≡◌, ◌≢◌, ℕ, zero, suc, ◌+◌, min, refl, arith}
 use Rattle.game_rules.specs.declared.RuleParts.{RuleParts}
 use Rattle.card_links.specs.Chains.{Chains, size_at, dealt_out}
 use Rattle.packed_state.specs.Packed.{Linked, IsLinked, HoldsFoundations}

@@ -1,6 +1,6 @@
 -- How many cards are due on all places together.
-use Rattle.std.proofs.Common.{◌≡◌, ℕ, zero, suc, ◌+◌, ◌*◌, ◌-◌, ◌<◌, ◌≤◌, Bool, true, false, List, [], ◌∷◌, map}
-use Rattle.std.proofs.Common.{length, get_or, take, refl, sym, ap, ap₂, ◌∙◌, arith, mul-le-mul}
+use Rattle.std.proofs.Common.{◌≡◌, ℕ, zero, suc, ◌+◌, ◌*◌, ◌<◌, ◌≤◌, Bool, true, false, List, [], ◌∷◌, map}
+use Rattle.std.proofs.Common.{length, get_or, refl, ap, ap₂, ◌∙◌, arith, mul-le-mul}
 use Rattle.std.specs.Prelude.{Option, Some, None, cond, is_some, if◌then◌else◌}
 use Rattle.std.specs.Option.{option_to_list}
 use Rattle.std.specs.List.{range_with_len, sum_by, sum, count_by}
@@ -11,7 +11,7 @@ use Rattle.game_rules.specs.declared.RuleParts.{RuleParts}
 use Rattle.game_rules.specs.Rules.{is_foundation_goal, is_sequence_goal}
 use Rattle.game_rules.specs.Conflicts.{HasLimits}
 use Rattle.game_rules.specs.Board.{Board, Pile, empty_pile, height_at}
-use Rattle.game_rules.specs.Belonging.{Belongs, card_count, foundation_count, slot_count}
+use Rattle.game_rules.specs.Belonging.{Belongs, card_count}
 use Rattle.packed_state.specs.Packing.{shape_of, cards_due}
 use Rattle.packed_state.specs.Packed.{IsSmall}
 use Rattle.packed_state.proofs.Due.{due_pile, due_cell, due_entry, due_waste, due_stock, due_home, due_hole, due_slot}

@@ -8,10 +8,10 @@ use Rattle.std.proofs.lemmas.Option.{get_or_from_slice_get}
 use Rattle.std.proofs.lemmas.List.{ext_get_or, get_or-take, get_or-drop, take_more, length-take}
 use Rattle.std.proofs.lemmas.List.FromFn.{length-map-range_with_len, get_or-map-range_with_len, map-range_with_len_more}
 use Rattle.card_piles.specs.declared.Card.{Card}
-use Rattle.card_links.specs.Chains.{size_at, slot_at}
+use Rattle.card_links.specs.Chains.{slot_at}
 use Rattle.game_rules.specs.declared.RuleParts.{RuleParts}
 use Rattle.game_rules.specs.Rules.{is_sequence_goal}
-use Rattle.game_rules.specs.Board.{Board, Pile, top_of}
+use Rattle.game_rules.specs.Board.{Pile, top_of}
 use Rattle.game_rules.specs.Winning.{row_at}
 use Rattle.game_rules.specs.declared.BoardParts.{BoardParts}
 use Rattle.game_rules.specs.Position.{parts_of, row_count}

@@ -106,7 +106,7 @@ impl Packed {
     }
 
     /// Makes a legal carry, and tells what it changed.
-    pub fn go_carry(&mut self, rules: &Rules, from: Place, to: Place, count: u8) -> Undo
+    pub(crate) fn go_carry(&mut self, rules: &Rules, from: Place, to: Place, count: u8) -> Undo
         requires belongs { Belongs rules.now (board_of self.old) }
         requires legal { IsTrue (is_legal_carry rules.now (board_of self.old) from to count) }
         ensures moved { board_of self.new ≡ after rules.now (board_of self.old) (Move.Carry from to count) }

@@ -101,7 +101,7 @@ impl Packed {
     }
 
     /// Deals from the stock's top to where the rules say.
-    pub fn go_deal(&mut self, rules: &Rules) -> Undo
+    pub(crate) fn go_deal(&mut self, rules: &Rules) -> Undo
         requires belongs { Belongs rules.now (board_of self.old) }
         requires legal { IsTrue (is_legal_deal rules.now (board_of self.old)) }
         ensures moved { board_of self.new ≡ after rules.now (board_of self.old) Move.Deal }
@@ -122,7 +122,7 @@ impl Packed {
     }
 
     /// Makes the stock of the waste.
-    pub fn go_redeal(&mut self, rules: &Rules) -> Undo
+    pub(crate) fn go_redeal(&mut self, rules: &Rules) -> Undo
         requires belongs { Belongs rules.now (board_of self.old) }
         requires legal { IsTrue (is_legal_redeal rules.now (board_of self.old)) }
         ensures moved { board_of self.new ≡ after rules.now (board_of self.old) Move.Redeal }

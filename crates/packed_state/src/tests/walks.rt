@@ -1,4 +1,4 @@
-//! Eight games, three moves deep: both forms of a board list the same moves, and every move, and
+//! Seventeen games, three moves deep: both forms of a board list the same moves, and every move, and
 //! stock moves at once, are made, taken back, and leave each slot and each link as it was.
 ghost use Rattle.std.specs.Prelude.{◌≡◌, not, IsTrue, IfSome, OnOk, IfOk};
 ghost use Rattle.game_rules.specs.Rules.{deals_to_waste};
@@ -10,7 +10,7 @@ ghost use Rattle.packed_state.specs.Packed.{board_of};
 use crate::Packed;
 use crate::tests::traces::Trace;
 use card_piles::Card;
-use game_model::{Board, BoardParts, Face, Goal, Items, Rules, Target};
+use game_model::{Board, BoardParts, Conflict, Face, Goal, Items, Rules, Target};
 use game_rules::{Move, suit_at};
 use legal_moves::list_moves;
 use small_games::{no_parts, rules_of, same_boards};
@@ -20,17 +20,65 @@ use std::test::Fail;
 /// How many stock moves are made at once: more than a pass of Klondike has.
 const MOST_STOCK_MOVES: u16 = 12;
 
-/// FreeCell, Klondike, Black Hole, Golf, Spider, Gaps, Beleaguered Castle and the little cell.
-const GAMES: [&str; 8] = [
-    "ranks 13 piles 8 cells 4 reserve 0 stock 0 red-black",
-    "ranks 13 piles 7 cells 0 reserve 0 stock 24 draw 3 unlimited top-up run king red-black",
-    "ranks 13 piles 17 cells 0 reserve 0 stock 0 none hole-wraps",
-    "ranks 13 piles 7 cells 0 reserve 0 stock 16 to-hole none hole",
-    "decks 2 ranks 13 piles 10 cells 0 reserve 0 stock 50 to-tableau top-up run any-suit suit-groups complete-runs",
-    "ranks 13 rows",
-    "ranks 13 piles 8 cells 0 reserve 0 stock 0 any-suit started",
-    "ranks 6 piles 4 cells 1 reserve 0 stock 0 red-black",
+/// The rules of each game, and how many cards its deal puts in the cells. They are FreeCell, Klondike, Black Hole,
+/// Golf, Spider, Gaps, Beleaguered Castle, the little cell, Baker's Game, ForeCell, Eight Off, Seahaven Towers,
+/// Penguin, Streets and Alleys, Flower Garden, King Albert and Baker's Dozen.
+const GAMES: [(&str, u8); 17] = [
+    ("ranks 13 piles 8 cells 4 reserve 0 stock 0 red-black", 0),
+    (
+        "ranks 13 piles 7 cells 0 reserve 0 stock 24 draw 3 unlimited top-up run king red-black",
+        0,
+    ),
+    (
+        "ranks 13 piles 17 cells 0 reserve 0 stock 0 none hole-wraps",
+        0,
+    ),
+    (
+        "ranks 13 piles 7 cells 0 reserve 0 stock 16 to-hole none hole",
+        0,
+    ),
+    (
+        "decks 2 ranks 13 piles 10 cells 0 reserve 0 stock 50 to-tableau top-up run any-suit suit-groups complete-runs",
+        0,
+    ),
+    ("ranks 13 rows", 0),
+    (
+        "ranks 13 piles 8 cells 0 reserve 0 stock 0 any-suit started",
+        0,
+    ),
+    ("ranks 6 piles 4 cells 1 reserve 0 stock 0 red-black", 0),
+    ("ranks 13 piles 8 cells 4 reserve 0 stock 0 same-suit", 0),
+    (
+        "ranks 13 piles 8 cells 4 reserve 0 stock 0 red-black king",
+        4,
+    ),
+    (
+        "ranks 13 piles 8 cells 8 reserve 0 stock 0 same-suit king",
+        4,
+    ),
+    (
+        "ranks 13 piles 10 cells 4 reserve 0 stock 0 same-suit king",
+        2,
+    ),
+    (
+        "ranks 13 piles 7 cells 7 reserve 0 stock 0 same-suit run king started round",
+        0,
+    ),
+    ("ranks 13 piles 8 cells 0 reserve 0 stock 0 any-suit", 0),
+    ("ranks 13 piles 6 cells 0 reserve 16 stock 0 any-suit", 0),
+    ("ranks 13 piles 9 cells 0 reserve 7 stock 0 red-black", 0),
+    (
+        "ranks 13 piles 13 cells 0 reserve 0 stock 0 any-suit none",
+        0,
+    ),
 ];
+
+/// The rules of a game. If the last word is `round`, a king can be put on an ace.
+fn rules_in(words: &str) -> Result<Rules, Conflict> {
+    let mut parts = rules_of(words)?.parts();
+    parts.wrap = words.ends_with("round");
+    Rules::new(parts)
+}
 
 /// The card at a place of a deck that was cut and stepped through.
 fn card_at(place: u16) -> Option<Card> {
@@ -110,8 +158,23 @@ fn deal_to<'a>(
     Ok(left)
 }
 
-/// A whole deal of the game.
-fn deal(alloc: Global, rules: &Rules) -> Result<Board, Fail>
+/// Deals a card to each of so many entries, and gives those that are left.
+fn deal_entries<'a>(
+    entries: &mut Items<Option<Card>>,
+    mut left: &'a [Card],
+    count: u8,
+) -> Result<&'a [Card], AllocError> {
+    for _ in 0..count {
+        if let Some((card, others)) = left.split_first() {
+            entries.push(Some(*card))?;
+            left = others;
+        }
+    }
+    Ok(left)
+}
+
+/// A whole deal of the game, with so many cards in the cells.
+fn deal(alloc: Global, rules: &Rules, in_cells: u8) -> Result<Board, Fail>
     ensures { IfOk result (λ board. Belongs rules.now board) }
 {
     let mut parts = no_parts(alloc);
@@ -124,6 +187,8 @@ fn deal(alloc: Global, rules: &Rules) -> Result<Board, Fail>
             left = deal_to(&mut parts.hole, left, 1)?;
         }
         left = deal_to(&mut parts.stock, left, rules.stock())?;
+        left = deal_entries(&mut parts.cells, left, in_cells)?;
+        left = deal_entries(&mut parts.reserve, left, rules.parts().reserve)?;
         if has_aces_home(rules) {
             for _ in 0..4 {
                 parts.foundations.push(1)?;
@@ -220,11 +285,11 @@ fn walk(alloc: Global, rules: &Rules, packed: &mut Packed, depth: u8) -> Result<
 }
 
 #[test]
-fn eight_games_are_walked_three_moves_deep(rt: HostRuntime) -> Result<(), Fail> {
+fn seventeen_games_are_walked_three_moves_deep(rt: HostRuntime) -> Result<(), Fail> {
     let alloc = rt.alloc();
-    for game in GAMES {
-        let rules = rules_of(game)?;
-        let start = deal(alloc, &rules)?;
+    for (game, in_cells) in GAMES {
+        let rules = rules_in(game)?;
+        let start = deal(alloc, &rules, in_cells)?;
         let mut packed = Packed::from_board(&rules, &start);
         let made = walk(alloc, &rules, &mut packed, 3)?;
         assert!(rt; matches!(made, Some(made) if made > 2), "{game}");

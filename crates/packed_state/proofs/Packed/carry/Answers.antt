@@ -1,4 +1,4 @@
-use Rattle.std.proofs.Common.{◌≡◌, ◌≤◌, ◌-◌, ◌∙◌, ap, sym, subst, arith}
+use Rattle.std.proofs.Common.{◌≤◌, ◌-◌, sym, subst, arith}
 use Rattle.card_links.specs.Chains.{size_at}
 use Rattle.packed_state.specs.Undoing.{CanCarry}
 use Rattle.packed_state.proofs.Making.{from_fits, to_fits, made_linked}

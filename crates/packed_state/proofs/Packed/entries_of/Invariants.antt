@@ -1,4 +1,4 @@
-use Rattle.std.proofs.Common.{◌≡◌, ◌+◌, map, length}
+use Rattle.std.proofs.Common.{◌≡◌, ◌+◌, map}
 use Rattle.std.specs.List.{range_with_len}
 use Rattle.game_rules.specs.Board.{top_of}
 use Rattle.packed_state.specs.Packed.{cards_at}

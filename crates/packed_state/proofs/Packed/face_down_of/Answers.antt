@@ -1,4 +1,3 @@
-use Rattle.std.proofs.Common.{refl}
 use Rattle.packed_state.specs.Packed.{face_at}
 use Rattle.packed_state.proofs.Unpacked.{more_listed}
 use Rattle.packed_state.proofs.Packed.face_down_of.Goals as goal

@@ -1,4 +1,4 @@
-use Rattle.std.proofs.Common.{◌≡◌, ◌+◌, map}
+use Rattle.std.proofs.Common.{◌+◌, map}
 use Rattle.std.specs.List.{range_with_len}
 use Rattle.packed_state.specs.Packed.{Added}
 use Rattle.packed_state.proofs.Due.{home_card}

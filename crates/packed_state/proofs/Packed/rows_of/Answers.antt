@@ -1,4 +1,3 @@
-use Rattle.std.proofs.Common.{refl}
 use Rattle.game_rules.specs.Winning.{row_at}
 use Rattle.packed_state.specs.Packed.{board_of}
 use Rattle.packed_state.proofs.Unpacked.{more_listed}
