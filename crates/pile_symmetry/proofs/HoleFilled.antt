@@ -1,8 +1,8 @@
 -- The cards that stand nowhere else are those below the top of the hole.
-use Rattle.std.proofs.Common.{◌≡◌, ℕ, zero, suc, ◌+◌, ◌-◌, ◌*◌, ◌<◌, ◌≤◌, Bool, true, false, ◌||◌, List, [], ◌∷◌, ◌++◌, map, take, drop, length, get_or, replicate, refl, ap, ap₂, sym, ◌∙◌, subst, arith, append-nil, length-append}
-use Rattle.std.specs.Prelude.{cond, IsTrue, Option, Some, None, slice_get, if◌then◌else◌}
+use Rattle.std.proofs.Common.{◌≡◌, ℕ, zero, suc, ◌+◌, ◌-◌, ◌*◌, Bool, true, false, ◌||◌, List, [], ◌∷◌, ◌++◌, map, take, length, get_or, replicate, refl, ap, ap₂, sym, ◌∙◌, subst, arith, length-append}
+use Rattle.std.specs.Prelude.{IsTrue, Option, Some, None, slice_get, if◌then◌else◌}
 use Rattle.std.specs.Option.{option_to_list}
-use Rattle.std.specs.List.{All, flat_map, range_with_len, sum_by}
+use Rattle.std.specs.List.{All, flat_map, range_with_len}
 use Rattle.std.specs.List.Sorted.{IsPermutation}
 use Rattle.std.specs.Ordering.{nat_cmp}
 use Rattle.std.proofs.Math.Seq.{take-append_seam}
@@ -27,7 +27,6 @@ use Rattle.game_rules.proofs.PositionFacts.{deck_size-is}
 use Rattle.game_rules.proofs.Copies.{copies-append}
 use Rattle.same_boards.specs.Same.{Same}
 use Rattle.same_boards.specs.Keys.{sorted_bytes, card_byte, card_bytes, entry_byte, hole_bytes}
-use Rattle.same_boards.proofs.Renaming.{either}
 use Rattle.same_boards.proofs.Sorting.{sorted-permutation}
 use Rattle.same_boards.proofs.KeyParts.{card_of_byte, entry-back, card-back, permutation-from_bytes, IsGood}
 use Rattle.same_boards.proofs.KeysSame.{top-good, empty-nil}
@@ -36,7 +35,7 @@ use Rattle.same_boards.proofs.SameBelongs.{copies-from_same}
 use Rattle.pile_symmetry.specs.Reading.{top_in, copies_in_lists, lacking, lacking_cards, hole_in}
 use Rattle.pile_symmetry.proofs.ReadBack.{in_key_order}
 use Rattle.pile_symmetry.proofs.InKeyOrder.{same-in_order, places-in_order}
-use Rattle.pile_symmetry.proofs.Counted.{counted_out, counted-bytes, counted-good, counted-sorted}
+use Rattle.pile_symmetry.proofs.Counted.{counted-bytes, counted-good, counted-sorted}
 
 -- ---- the hole's top, and what lies below it
 

@@ -1,5 +1,5 @@
 -- The board in the order of its key is the same board, and has its places.
-use Rattle.std.proofs.Common.{◌≡◌, ℕ, zero, suc, ◌+◌, ◌-◌, ◌*◌, ◌/◌, ◌%◌, ◌<◌, ◌≤◌, Bool, true, false, List, [], ◌∷◌, ◌++◌, map, take, drop, length, get_or, replicate, refl, ap, ap₂, sym, ◌∙◌, subst, arith, append_assoc, append-nil, length-append}
+use Rattle.std.proofs.Common.{◌≡◌, ℕ, zero, suc, ◌+◌, ◌-◌, ◌*◌, ◌/◌, ◌%◌, ◌<◌, ◌≤◌, Bool, true, false, List, [], ◌∷◌, ◌++◌, map, take, drop, length, get_or, replicate, refl, ap, ap₂, sym, ◌∙◌, subst, arith, length-append}
 use Rattle.std.specs.Prelude.{IsTrue, MatchBool, Option, Some, None, is_some, nat_eq, if◌then◌else◌}
 use Rattle.std.specs.List.{All, list_all, concat, range_with_len}
 use Rattle.std.specs.List.Sorted.{IsPermutation}
@@ -16,19 +16,18 @@ use Rattle.card_piles.specs.declared.Card.{Card}
 use Rattle.game_rules.specs.declared.RuleParts.{RuleParts}
 use Rattle.game_rules.specs.Rules.{is_foundation_goal, is_sequence_goal}
 use Rattle.game_rules.specs.Board.{Board, Pile, top_of, height_at}
-use Rattle.game_rules.specs.Winning.{row_at, rows_of}
+use Rattle.game_rules.specs.Winning.{rows_of}
 use Rattle.game_rules.specs.Belonging.{Belongs, foundation_count}
 use Rattle.game_rules.specs.Position.{HasRanks, filled}
 use Rattle.game_rules.proofs.PositionFacts.{length-filled}
 use Rattle.same_boards.specs.Same.{Same, keeps_pile_order, heights_of_suit}
-use Rattle.same_boards.specs.Keys.{sorted_bytes, sorted_lists, card_byte, card_bytes, cards_in, height_bytes, cell_bytes, reserve_bytes, pile_bytes, piles_bytes, row_bytes, rows_bytes}
+use Rattle.same_boards.specs.Keys.{sorted_bytes, sorted_lists, card_byte, card_bytes, cards_in, height_bytes, pile_bytes, row_bytes}
 use Rattle.same_boards.proofs.Sorting.{sorted-permutation}
 use Rattle.same_boards.proofs.KeyParts.{card_of_byte, entry_of_byte, pile_of_bytes, cards-back, row-back, map-back, card-back, pile-back, IsGood, IsGoodEntry, IsGoodPile}
 use Rattle.same_boards.proofs.KeysSame.{some_card, entries-permutation, filled as all-filled, good_cards_in, good_rows, IsGoodRow, all_heights, suit_size, sorted_rows, sorted_rows-long, sorted_rows-size}
-use Rattle.same_boards.proofs.SameWins.{rows_count}
 use Rattle.same_boards.proofs.SameAfter.{HasPlaces}
-use Rattle.pile_symmetry.specs.Reading.{card_entry, reserve_in, height_in, heights_in}
-use Rattle.pile_symmetry.proofs.ReadBack.{in_key_order, heights-many}
+use Rattle.pile_symmetry.specs.Reading.{card_entry, height_in}
+use Rattle.pile_symmetry.proofs.ReadBack.{in_key_order}
 
 -- ---- cards from the bytes in order
 

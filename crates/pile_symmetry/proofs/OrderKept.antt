@@ -1,6 +1,6 @@
 -- A board that is read back from its key stands in the order of the key.
-use Rattle.std.proofs.Common.{◌≡◌, ℕ, zero, suc, ◌+◌, ◌-◌, ◌*◌, ◌<◌, ◌≤◌, Bool, true, false, List, [], ◌∷◌, ◌++◌, map, take, drop, length, get_or, replicate, refl, ap, ap₂, sym, ◌∙◌, subst, arith, append-nil}
-use Rattle.std.specs.Prelude.{IsTrue, Option, Some, None, is_some, nat_eq, if◌then◌else◌}
+use Rattle.std.proofs.Common.{◌≡◌, ℕ, zero, suc, ◌-◌, ◌*◌, ◌<◌, Bool, true, false, List, [], ◌∷◌, ◌++◌, map, length, get_or, replicate, refl, ap, ap₂, sym, ◌∙◌, arith, append-nil}
+use Rattle.std.specs.Prelude.{IsTrue, Option, None, is_some, nat_eq, if◌then◌else◌}
 use Rattle.std.specs.List.{All, list_all, concat, range_with_len}
 use Rattle.std.specs.Ordering.{nat_cmp}
 use Rattle.std.specs.Cmp.Lexicographic.{slice_cmp}
@@ -16,11 +16,11 @@ use Rattle.game_rules.specs.Winning.{rows_of}
 use Rattle.game_rules.specs.Belonging.{Belongs}
 use Rattle.game_rules.specs.Position.{HasRanks, filled}
 use Rattle.same_boards.specs.Same.{keeps_pile_order, heights_of_suit}
-use Rattle.same_boards.specs.Keys.{sorted_bytes, sorted_lists, card_byte, card_bytes, cards_in, entry_byte, cell_bytes, reserve_bytes, pile_bytes, piles_bytes, row_bytes, rows_bytes}
+use Rattle.same_boards.specs.Keys.{sorted_bytes, sorted_lists, card_byte, card_bytes, cards_in, entry_byte, cell_bytes, pile_bytes, row_bytes}
 use Rattle.same_boards.proofs.Sorting.{sorted-permutation}
 use Rattle.same_boards.proofs.KeyParts.{card_of_byte, entry_of_byte, pile_of_bytes, map-back, card-back, pile-back, row-back, IsGood, IsGoodEntry, IsGoodPile}
 use Rattle.same_boards.proofs.KeysSame.{some_card, filled as all-filled, good_cards_in, good_rows, IsGoodRow, all_heights, sorted_rows, sorted_rows-long, sorted_rows-size}
-use Rattle.pile_symmetry.specs.Reading.{card_entry, reserve_in, height_in}
+use Rattle.pile_symmetry.specs.Reading.{card_entry, height_in}
 use Rattle.pile_symmetry.specs.InOrder.{IsInKeyOrder}
 use Rattle.pile_symmetry.proofs.ReadBack.{in_key_order}
 use Rattle.pile_symmetry.proofs.InKeyOrder.{heights-in_order, rows-cut}

@@ -1,6 +1,6 @@
 -- What the key of a board says are the board's parts, in the order of the key.
-use Rattle.std.proofs.Common.{◌≡◌, ℕ, zero, suc, ◌+◌, ◌-◌, ◌*◌, ◌<◌, ◌≤◌, Bool, true, false, List, [], ◌∷◌, ◌++◌, map, take, drop, length, get_or, refl, ap, ap₂, sym, ◌∙◌, subst, arith, append_assoc, append-nil}
-use Rattle.std.specs.Prelude.{slice_index_or, Option, Some, None, if◌then◌else◌}
+use Rattle.std.proofs.Common.{◌≡◌, ℕ, zero, suc, ◌*◌, ◌<◌, Bool, true, false, List, [], ◌∷◌, ◌++◌, map, take, drop, length, get_or, refl, ap, ap₂, sym, ◌∙◌, arith, append_assoc}
+use Rattle.std.specs.Prelude.{Option, None, if◌then◌else◌}
 use Rattle.std.specs.List.{All, concat, range_with_len}
 use Rattle.std.proofs.Math.Seq.{take-append_seam, drop-append_seam}
 use Rattle.std.proofs.lemmas.List.{length-map, take-map, drop-map, nil_from_length}
@@ -12,17 +12,16 @@ use Rattle.game_rules.specs.declared.BoardParts.{BoardParts}
 use Rattle.game_rules.specs.Rules.{is_foundation_goal, is_hole_goal, is_sequence_goal}
 use Rattle.game_rules.specs.Conflicts.{IsPlayable}
 use Rattle.game_rules.specs.Board.{Board, Pile, empty_pile}
-use Rattle.game_rules.specs.Winning.{row_at}
 use Rattle.game_rules.specs.Belonging.{Belongs, foundation_count}
-use Rattle.game_rules.specs.Position.{HasRanks, filled, parts_of, row_count}
+use Rattle.game_rules.specs.Position.{HasRanks, filled, parts_of}
 use Rattle.game_rules.proofs.ListFacts.{map-range-same}
 use Rattle.same_boards.specs.Same.{keeps_pile_order}
-use Rattle.same_boards.specs.Keys.{card_bytes, counted, height_bytes, hole_bytes, cell_bytes, reserve_bytes, pile_bytes, piles_bytes, rows_bytes, key_bytes}
+use Rattle.same_boards.specs.Keys.{card_bytes, counted, height_bytes, hole_bytes, cell_bytes, reserve_bytes, piles_bytes, rows_bytes, key_bytes}
 use Rattle.same_boards.proofs.KeyParts.{card_of_byte, entry_of_byte, pile_of_bytes, cards-back, IsPileBytes}
 use Rattle.same_boards.proofs.KeysSame.{pieces-are, pieces-size, all_heights, all_heights-size}
-use Rattle.same_boards.proofs.KeySize.{RowsAlone, rows_alone}
+use Rattle.same_boards.proofs.KeySize.{rows_alone}
 use Rattle.pile_symmetry.specs.Said.{Said}
-use Rattle.pile_symmetry.specs.Reading.{counted_part, after_counted, pile_in, after_pile, after_piles, piles_in, card_entry, reserve_in, heights_in, hole_size, from_waste, from_heights, from_hole, from_cells, from_reserve, said, row_in, rows_in, top_in, parts_said}
+use Rattle.pile_symmetry.specs.Reading.{counted_part, after_counted, pile_in, after_pile, after_piles, piles_in, card_entry, reserve_in, heights_in, hole_size, from_waste, from_heights, from_hole, from_cells, from_reserve, said, row_in, top_in, parts_said}
 
 -- ---- the bytes of each part
 

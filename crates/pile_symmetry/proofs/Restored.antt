@@ -19,7 +19,7 @@ use Rattle.same_boards.specs.Keys.{hole_bytes, key_bytes}
 use Rattle.same_boards.proofs.Renaming.{either}
 use Rattle.same_boards.proofs.SameKeys.{key-from_same}
 use Rattle.same_boards.proofs.SameBelongs.{belongs-from_same}
-use Rattle.pile_symmetry.specs.Reading.{said, top_in, hole_in, parts_said, whole_parts}
+use Rattle.pile_symmetry.specs.Reading.{top_in, hole_in, whole_parts}
 use Rattle.pile_symmetry.specs.InOrder.{IsInKeyOrder}
 use Rattle.pile_symmetry.proofs.ReadBack.{in_key_order, parts-back}
 use Rattle.pile_symmetry.proofs.InKeyOrder.{same-in_order, places-in_order}

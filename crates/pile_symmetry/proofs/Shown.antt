@@ -1,10 +1,10 @@
 -- What a key shows of cards, entries and piles: themselves, or each card as its colour and rank.
-use Rattle.std.proofs.Common.{◌≡◌, ℕ, ◌-◌, ◌<◌, List, [], ◌∷◌, map, length, get_or, refl, ap, ◌∙◌, sym}
+use Rattle.std.proofs.Common.{◌≡◌, ℕ, List, [], ◌∷◌, map, refl, ap}
 use Rattle.std.specs.Prelude.{Option, Some, None}
 use Rattle.std.specs.Option.{option_map}
 use Rattle.std.proofs.Math.ListN.{get_or-map}
 use Rattle.card_piles.specs.declared.Card.{Card}
-use Rattle.game_rules.specs.Board.{Board, Pile, pile_at, entry_at, empty_pile, top_of}
+use Rattle.game_rules.specs.Board.{Board, pile_at, entry_at, empty_pile}
 use Rattle.game_rules.specs.Play.{is_empty}
 use Rattle.same_boards.specs.Colours.{coloured, coloured_entry, coloured_pile, coloured_board}
 

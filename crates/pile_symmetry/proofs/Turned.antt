@@ -1,7 +1,7 @@
--- What is put from the end of a buffer towards its front, since it comes from the top down.
-use Rattle.std.proofs.Common.{◌≡◌, ℕ, ◌+◌, ◌-◌, ◌<◌, ◌≤◌, Bool, List, [], ◌∷◌, ◌++◌, map, set, drop, length, reverse}
-use Rattle.std.proofs.Common.{refl, ap, sym, ◌∙◌, arith}
-use Rattle.std.proofs.lemmas.List.{reverse-append, map-append, drop-set}
+-- Cards that come from the top down, and are put before one another.
+use Rattle.std.proofs.Common.{◌≡◌, ℕ, Bool, List, [], ◌∷◌, ◌++◌, map, length, reverse}
+use Rattle.std.proofs.Common.{refl, ap, sym, ◌∙◌}
+use Rattle.std.proofs.lemmas.List.{reverse-append, map-append}
 use Rattle.card_piles.specs.declared.Card.{Card}
 use Rattle.game_rules.specs.Board.{Board}
 use Rattle.packed_state.specs.Spots as spots
@@ -38,25 +38,21 @@ turned_bytes shown (card ∷ cards) =
     ∙ reverse-append (bytes (reverse cards)) (bytes (card ∷ []))
     ∙ ap (λ (zs : List ℕ). card_byte (shown card) ∷ zs) (turned_bytes shown cards)
 
-pub put_turned : (shown : Card → Card) (old key : List ℕ) (cards turned : List Card) → turned ≡ reverse cards
-    → key ≡ old ++ reverse (card_bytes (map shown turned)) → key ≡ old ++ card_bytes (map shown cards)
-put_turned shown old key cards turned is put =
+pub put_turned : (shown : Card → Card) (old new : List ℕ) (cards turned : List Card) → turned ≡ reverse cards
+    → new ≡ reverse (card_bytes (map shown turned)) ++ old → new ≡ card_bytes (map shown cards) ++ old
+put_turned shown old new cards turned is put =
     put
-    ∙ ap (λ (xs : List ℕ). old ++ xs)
+    ∙ ap (λ (xs : List ℕ). xs ++ old)
     (ap (λ (xs : List Card). reverse (card_bytes (map shown xs))) is ∙ turned_bytes shown cards)
 
--- a buffer that is written towards its front, with the byte of one card more
-pub written_more : (shown : Card → Card) (bytes : List ℕ) (at byte : ℕ) (seen : List Card) (card : Card)
-    → length bytes ≡ 176 → 0 < at → at ≤ 176 → byte ≡ card_byte (shown card)
-    → drop at bytes ≡ reverse (card_bytes (map shown seen))
-    → drop (at - 1) (set bytes (at - 1) byte) ≡ reverse (card_bytes (map shown (seen ++ card ∷ [])))
-written_more shown bytes at byte seen card long some fits is before =
+-- one card more that was put before the bytes
+pub put_one_more : (shown : Card → Card) (old now : List ℕ) (byte : ℕ) (seen : List Card) (card : Card)
+    → byte ≡ card_byte (shown card) → now ≡ reverse (card_bytes (map shown seen)) ++ old
+    → byte ∷ now ≡ reverse (card_bytes (map shown (seen ++ card ∷ []))) ++ old
+put_one_more shown old now byte seen card is before =
     let last : card_bytes (map shown (seen ++ card ∷ [])) ≡ card_bytes (map shown seen) ++ byte ∷ [] =
     ap card_bytes (map-append shown seen (card ∷ []))
     ∙ map-append card_byte (map shown seen) (map shown (card ∷ []))
     ∙ ap (λ (b : ℕ). card_bytes (map shown seen) ++ b ∷ []) (sym is) in
-    let same : at - 1 + 1 ≡ at = omega arith in
-    drop-set bytes (at - 1) byte (omega (arith, long))
-    ∙ ap (λ (n : ℕ). byte ∷ drop n bytes) same
-    ∙ ap (λ (xs : List ℕ). byte ∷ xs) before
-    ∙ sym (ap reverse last ∙ reverse-append (card_bytes (map shown seen)) (byte ∷ []))
+    ap (λ (xs : List ℕ). byte ∷ xs) before
+    ∙ sym (ap (λ (xs : List ℕ). xs ++ old) (ap reverse last ∙ reverse-append (card_bytes (map shown seen)) (byte ∷ [])))

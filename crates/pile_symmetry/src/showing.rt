@@ -5,7 +5,7 @@ ghost use Rattle.card_piles.specs.declared.Card.{Card};
 ghost use Rattle.same_boards.specs.Keys.{card_byte, card_bytes, entry_byte};
 ghost use Rattle.same_boards.specs.Colours.{coloured};
 
-use crate::key::Key;
+use crate::backwards::Backwards;
 use crate::reader::Colours;
 use card_piles::Card;
 use game_model::Board;
@@ -61,27 +61,22 @@ pub(crate) fn entry_byte<S: Shows>(entry: Option<Card>) -> u8
     }
 }
 
-/// Puts what is shown of cards.
-pub(crate) fn put_cards<S: Shows>(cards: &[Card], key: &mut Key)
-    requires { length key.old + length cards.now ≤ 176 }
-    ensures { key.new ≡ key.old ++ card_bytes (map S.shown cards.now) }
+/// Puts what is shown of cards before the bytes.
+pub(crate) fn put_cards<S: Shows>(cards: &[Card], bytes: &mut Backwards)
+    requires { length cards.now + length bytes.old ≤ 176 }
+    ensures { bytes.new ≡ card_bytes (map S.shown cards.now) ++ bytes.old }
 {
-    for card in cards {
-        key.put(S::byte_of(*card));
+    for back in 0..cards.len() {
+        bytes.put(S::byte_of(cards[cards.len() - 1 - back]));
     }
 }
 
-/// Puts what is shown of cards that come from the top down, the last of them first.
-pub(crate) fn put_from_below<S: Shows>(cards: Cards<'_>, key: &mut Key)
-    requires { length key.old + length cards ≤ 176 }
-    ensures { key.new ≡ key.old ++ reverse (card_bytes (map S.shown cards.entry)) }
+/// Puts what is shown of cards before the bytes, each card before the one that came ahead of it.
+pub(crate) fn put_turned<S: Shows>(cards: Cards<'_>, bytes: &mut Backwards)
+    requires { length cards + length bytes.old ≤ 176 }
+    ensures { bytes.new ≡ reverse (card_bytes (map S.shown cards.entry)) ++ bytes.old }
 {
-    // The bytes are written from the end of a buffer towards its front.
-    let mut bytes = [0u8; 176];
-    let mut at: usize = 176;
     for card in cards {
-        at -= 1;
-        bytes[at] = S::byte_of(card);
+        bytes.put(S::byte_of(card));
     }
-    key.put_bytes(&bytes[at..]);
 }

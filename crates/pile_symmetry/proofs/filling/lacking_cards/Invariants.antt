@@ -1,4 +1,4 @@
-use Rattle.std.proofs.Common.{◌≡◌, ◌++◌, replicate}
+use Rattle.std.proofs.Common.{◌≡◌, replicate}
 use Rattle.std.specs.List.{flat_map, range_with_len}
 use Rattle.game_rules.specs.Position.{card_numbered}
 use Rattle.pile_symmetry.specs.Reading.{lacking}

@@ -2,8 +2,8 @@ use Rattle.same_boards.proofs.KeySize.{key-short}
 use Rattle.pile_symmetry.proofs.Readable.{readable-belongs}
 use Rattle.pile_symmetry.proofs.making.key_of_board.Goals as goal
 
-pub key_from-requires-clause-readable : goal.key_from-requires-clause-readable
-key_from-requires-clause-readable c = readable-belongs c.args.rules.now c.args.board.now c.parts.ensures.playable c.requires
+pub put_key-requires-clause-readable : goal.put_key-requires-clause-readable
+put_key-requires-clause-readable c = readable-belongs c.args.rules.now c.args.board.now c.parts.ensures.playable c.requires
 
-pub key_from-requires-clause-short : goal.key_from-requires-clause-short
-key_from-requires-clause-short c = key-short c.args.rules.now c.args.board.now c.parts.ensures.playable c.requires
+pub put_key-requires-clause-short : goal.put_key-requires-clause-short
+put_key-requires-clause-short c = key-short c.args.rules.now c.args.board.now c.parts.ensures.playable c.requires

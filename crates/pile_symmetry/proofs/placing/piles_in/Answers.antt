@@ -1,10 +1,8 @@
-use Rattle.std.proofs.Common.{◌≡◌, ℕ, ◌+◌, ◌++◌, [], ◌∷◌, List, map, ap, ap₂, ◌∙◌, sym, suc, arith}
-use Rattle.std.specs.List.{range_with_len}
+use Rattle.std.proofs.Common.{◌≡◌, ℕ, ◌+◌, ◌++◌, [], ◌∷◌, List, map, ap, ◌∙◌, suc, arith}
 use Rattle.std.proofs.lemmas.List.{map-append}
 use Rattle.std.proofs.lemmas.List.FromFn.{map-range_with_len_more}
-use Rattle.card_piles.specs.declared.Card.{Card}
 use Rattle.game_rules.specs.Board.{Pile}
-use Rattle.pile_symmetry.specs.Reading.{pile_in, after_pile, after_piles, piles_in}
+use Rattle.pile_symmetry.specs.Reading.{pile_in, after_piles, piles_in}
 use Rattle.pile_symmetry.proofs.placing.piles_in.Goals as goal
 
 pub loop-i-preserved : goal.loop-i-preserved

@@ -6,8 +6,8 @@ use Rattle.pile_symmetry.specs.Parts.{cards_of}
 use Rattle.pile_symmetry.proofs.Turned.{spot_cards, put_turned}
 use Rattle.pile_symmetry.proofs.reader.put_part.Goals as goal
 
-pub put_from_below-requires : goal.put_from_below-requires
-put_from_below-requires g c =
+pub put_turned-requires : goal.put_turned-requires
+put_turned-requires g c =
     let board = board_of c.args.packed.now in
     let down : c.cards.result ≡ reverse (cards_of board c.args.part) =
     c.cards.ensures ∙ ap (spots.cards_of (is_stacked c.args.packed.now) board) c.spot_of.ensures
@@ -17,7 +17,7 @@ put_from_below-requires g c =
 pub returns : goal.returns
 returns g c =
     let board = board_of c.args.packed.now in
-    put_turned g.S.Shows.shown c.args.key.now c.put_from_below.new.key (cards_of board c.args.part) c.cards.result
+    put_turned g.S.Shows.shown c.args.bytes.now c.put_turned.new.bytes (cards_of board c.args.part) c.cards.result
     (c.cards.ensures ∙ ap (spots.cards_of (is_stacked c.args.packed.now) board) c.spot_of.ensures
     ∙ spot_cards (is_stacked c.args.packed.now) board c.args.part)
-    c.put_from_below.ensures
+    c.put_turned.ensures

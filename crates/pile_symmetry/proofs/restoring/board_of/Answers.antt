@@ -1,4 +1,4 @@
-use Rattle.std.proofs.Common.{ap, sym, ◌∙◌}
+use Rattle.std.proofs.Common.{ap, ◌∙◌}
 use Rattle.game_rules.specs.Position.{board_of_parts}
 use Rattle.pile_symmetry.proofs.Restored.{found-if, none-if, fault-if}
 use Rattle.pile_symmetry.proofs.restoring.board_of.Goals as goal
