@@ -1,30 +1,20 @@
 -- What a search answers when it ends.
 use Rattle.std.proofs.Common.{◌≡◌, ℕ, ◌+◌, Bool, subst, List, length}
 use Rattle.dfs_core.specs.Search.{game, IsFreshIn}
-use Rattle.dfs_core.specs.Standing.{problem_from, IsSearch, IsNew, IsWin, IsOver, HasMet}
+use Rattle.dfs_core.specs.Standing.{problem_from, IsSearch, IsWin, IsOver, HasMet}
 use Rattle.dfs_core.specs.Laid.{Values, Shows}
 use Rattle.dfs_core.specs.Answer.{EndsWith, IsAnswer}
 use Rattle.dfs_core.specs.declared.space.Space.{Ghosts}
-use Rattle.dfs_core.specs.declared.advance.NewState.{NewState}
 use Rattle.dfs_core.specs.declared.advance.Met.{Met}
-use Rattle.dfs_core.specs.declared.advance.Met.TheVariants as met
 use Rattle.dfs_core.specs.declared.trail.Found.{Found}
 use Rattle.dfs_core.specs.declared.trail.Found.TheVariants as found
 
 module _ {S State Step Key Undo : Type 0} (space : Ghosts S Key Step Undo State) (eq : Key → Key → Bool)
     {first : S} {walk : List (List Step)} {now : Values S Step Key Undo} where
   -- what was met, by its name
-  pub as_win : {m : Met Step Undo Key} {step : Step} → m ≡ met.Won step → Shows (HasMet space eq m) first walk now
-      → Shows (IsWin space eq step) first walk now
-  as_win e h = subst (λ m. Shows (HasMet space eq m) first walk now) e h
-
-  pub as_new : {m : Met Step Undo Key} {new : NewState Step Undo Key} → m ≡ met.New new
-      → Shows (HasMet space eq m) first walk now → Shows (IsNew space eq new) first walk now
-  as_new e h = subst (λ m. Shows (HasMet space eq m) first walk now) e h
-
-  pub as_over : {m : Met Step Undo Key} → m ≡ met.Exhausted → Shows (HasMet space eq m) first walk now
-      → Shows (IsOver space eq) first walk now
-  as_over e h = subst (λ m. Shows (HasMet space eq m) first walk now) e h
+  pub as_met : {m m' : Met Step Undo Key} → m ≡ m' → Shows (HasMet space eq m) first walk now
+      → Shows (HasMet space eq m') first walk now
+  as_met e h = subst (λ m. Shows (HasMet space eq m) first walk now) e h
 
 module _ {S State Step Key Undo : Type 0} {space : Ghosts S Key Step Undo State} {eq : Key → Key → Bool}
     {first : S} {walk : List (List Step)} {now : Values S Step Key Undo} where

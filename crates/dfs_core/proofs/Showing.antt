@@ -4,16 +4,17 @@ use Rattle.std.proofs.Common.{◌∷◌, ◌++◌, length, append-nil, Contains,
 use Rattle.std.specs.Cmp.{IsEquivalence}
 use Rattle.trails.specs.Trails.{IsTrail}
 use Rattle.trails.specs.Walks.{IsClosed}
+use Rattle.trails.proofs.Lists.{empty_of}
 use Rattle.trails.proofs.TrailLaws.{end-push, IsTrail-push}
 use Rattle.transposition.specs.Memo.{IsAbsent, IsKnownAs, IsLookedAt, LeavesLast}
 use Rattle.transposition.specs.declared.memo.Known.{Known}
 use Rattle.transposition.specs.declared.memo.Known.TheVariants.{New}
 use Rattle.dfs_core.specs.Search.{Problem, Memory, Search, Progress, path_of, IsNext, game, end_at, key_at, after}
-use Rattle.dfs_core.specs.Search.{states_at, IsCleanIn, FollowsIn, IsFreshIn}
+use Rattle.dfs_core.specs.Search.{IsCleanIn, FollowsIn, IsFreshIn}
 use Rattle.dfs_core.specs.Kept.{IsKept}
 use Rattle.dfs_core.specs.Standing.{IsStepped, LeadsTo, IsMade, problem_from, IsSearch, IsNew, IsWin, IsOver}
 use Rattle.dfs_core.specs.Standing.{IsExpanded}
-use Rattle.dfs_core.specs.Laid.{StackView, Values, steps_of, Descends, Shows, LeadsBack}
+use Rattle.dfs_core.specs.Laid.{StackView, Values, steps_of, IsLaid, Descends, Shows, LeadsBack}
 use Rattle.dfs_core.specs.declared.space.Space.{Ghosts}
 use Rattle.dfs_core.specs.declared.stack.Level.{Level}
 use Rattle.dfs_core.specs.declared.stack.Frame.{Frame}
@@ -23,7 +24,7 @@ use Rattle.dfs_core.proofs.Moves.{what_is_known_is_settled, look_takes_none_in, 
 use Rattle.dfs_core.proofs.Moves.{differ_on_path, next_place, last_place, last_key}
 use Rattle.dfs_core.proofs.Passed.{IsNextAt, DifferOnPath, entered_at}
 use Rattle.dfs_core.proofs.Keeping.{kept_started, kept_tried, kept_entered, kept_left, fresh_next}
-use Rattle.dfs_core.proofs.Standings.{some_same, states_some, map_some, same_play, at_path, leads_push, leads_pop}
+use Rattle.dfs_core.proofs.Standings.{some_same, states_some, same_play, at_path, leads_push, leads_pop}
 use Rattle.dfs_core.proofs.Standings.{leads_back}
 use Rattle.dfs_core.proofs.Laying.{laid_path, laid_back, laid_next, laid_room, laid_done, laid_tried, laid_pushed, Pops}
 use Rattle.dfs_core.proofs.Laying.{laid_popped, laid_none}
@@ -88,16 +89,19 @@ module _ {S State Step Key Undo : Type 0} {space : Ghosts S Key Step Undo State}
 
     -- the current state is live
     pub shown_live : now.memory.live ≢ []
-    shown_live e = states_some (game problem) problem.start path
-        (map_some problem.play.key (states_at problem path) (sym h.is.underway.live_is ∙ e))
+    shown_live e = states_some (game problem) problem.play.key problem.start path (sym h.is.underway.live_is ∙ e)
 
     -- no step is left at the start
-    pub shown_over : now.stack.frames ≡ [] → length now.stack.steps ≤ now.stack.top.next
-        → Shows (IsOver space eq) first walk now
-    shown_over none le =
+    pub shown_over : (fs : List (Frame Step Undo)) → now.stack.frames ≡ fs ++ [] → length fs ≡ 0
+        → length now.stack.steps ≤ now.stack.top.next
+        → Shows (IsOver space eq) first walk (record now { stack = record now.stack { frames = fs } })
+    shown_over fs e none le =
+        let same : now.stack.frames ≡ fs = e ∙ append-nil fs in
+        let start = laid_none h.laid (same ∙ empty_of fs none) in
         let over : IsOver space eq search =
-        record { before = h.is; at_start = laid_none h.laid none; all_tried = laid_done h.laid le } in
-        record { line = h.line; laid = h.laid; is = over }
+        record { before = h.is; at_start = start; all_tried = laid_done h.laid le } in
+        subst (λ gs. Shows (IsOver space eq) first walk (record now { stack = record now.stack { frames = gs } })) same
+        (record { line = h.line; laid = h.laid; is = over })
 
     -- what is known of the next state, if the next step was made
     module _ {new : NewState Step Undo Key} {next : S} (made : IsMade space search new next) where
@@ -215,21 +219,23 @@ module _ {S State Step Key Undo : Type 0} {space : Ghosts S Key Step Undo State}
       shown_leads_left space' back = laid_back pops.laid_below space.before space'
           ∙ leads_back space eq pops.below first space' (leads_left space' back)
 
-      pub shown_left : IsEquivalence eq → (space' : S) (memory' : Memory Key)
-          → space.before f.undo now.space ≡ Some space' → length now.stack.steps ≤ now.stack.top.next
+      pub shown_left : IsEquivalence eq → (space' : S) (steps' : List Step) (memory' : Memory Key)
+          → steps' ≡ take now.stack.top.begin now.stack.steps → space.before f.undo now.space ≡ Some space'
+          → length now.stack.steps ≤ now.stack.top.next
           → LeavesLast now.memory.capacity now.memory.live now.memory.finished memory'.live memory'.finished
           → memory'.capacity ≡ now.memory.capacity → Shows (IsSearch space eq) first walk (record {
             space = space';
-            stack = record { frames = fs; steps = take now.stack.top.begin now.stack.steps; top = f.level };
+            stack = record { frames = fs; steps = steps'; top = f.level };
             memory = memory';
           })
-      shown_left laws space' memory' back le leaves capacity' =
+      shown_left laws space' steps' memory' cut back le leaves capacity' =
           let u = h.is.underway in
           let level = pops.frame.level in
           let below : Progress Step = record { walk = walk; path = path_of pops.below; tried = level.tried } in
           record {
             line = record { frames = pops.below; top = level };
-            laid = pops.laid_below;
+            laid = subst (λ xs. IsLaid (record { frames = fs; steps = xs; top = f.level })
+                (record { frames = pops.below; top = level })) (sym cut) pops.laid_below;
             is = record {
               leads = leads_left space' back;
               underway = leaving problem u pops.below pops.frame pops.frames_is memory' (laid_done h.laid le) leaves;

@@ -1,11 +1,13 @@
-use Rattle.std.proofs.Common.{◌≡◌, ◌∙◌, arith, ap, sym, append-nil, length}
-use Rattle.trails.proofs.Lists.{empty_of}
+use Rattle.std.proofs.Common.{◌∙◌, arith, ap, length, Result, Ok, Err, OnErr}
 use Rattle.std.proofs.lemmas.List.{length-take}
-use Rattle.dfs_core.specs.Laid.{values, memory_of, left_of}
-use Rattle.dfs_core.proofs.Refused.{on_err}
+use Rattle.dfs_core.specs.Laid.{memory_of, left_of}
 use Rattle.dfs_core.proofs.Laying.{left_of-push}
 use Rattle.dfs_core.proofs.Showing.{shown_live, shown_over, shown_back, shown_leads_left, shown_left}
 use Rattle.dfs_core.proofs.advance.advance.Goals as goal
+
+on_err : {A E : Type 0} (r : Result A E) (P : Type 0) → P → OnErr r P
+on_err (Ok x) P p = tt
+on_err (Err e) P p = p
 
 pub try_step-requires-clause-searching : goal.try_step-requires-clause-searching
 try_step-requires-clause-searching g c =
@@ -24,12 +26,9 @@ turns-preserved-in_default g c = record {
 
 pub returns-in_default-pop-clause-met : goal.returns-in_default-pop-clause-met
 returns-in_default-pop-clause-met g c = λ first walk h.
-    let now = values g.M.Memo c.turns.space c.turns.stack c.turns.memo in
-    let e : now.stack.frames ≡ c.pop.new.self.items = c.in_default-pop.ensures.items
-    ∙ append-nil c.pop.new.self.items in
-    let none = e ∙ empty_of c.pop.new.self.items (omega (arith, c.in_default-pop.ensures.cases, c.pop.new.self.ok.0)) in
-    rw (sym e) (shown_over (c.turns.invariant.goes_on first walk h) none
-    (omega (arith, c.if-stack-len.false, c.len.ensures)))
+    shown_over (c.turns.invariant.goes_on first walk h) c.pop.new.self.items c.in_default-pop.ensures.items
+    (omega (arith, c.in_default-pop.ensures.cases, c.pop.new.self.ok.0))
+    (omega (arith, c.if-stack-len.false, c.len.ensures))
 
 pub back-requires : goal.back-requires
 back-requires g c =
@@ -43,11 +42,11 @@ leave-requires g c = let r = c.requires in shown_live (c.turns.invariant.goes_on
 pub turns-preserved : goal.turns-preserved
 turns-preserved g c = record {
   capacity = c.in_ok-leave.ensures.capacity ∙ c.turns.invariant.capacity;
-  goes_on = λ first walk h. rw c.truncate.ensures.items
-      (shown_left (c.turns.invariant.goes_on first walk h) c.pop.new.self.items c.in-Some-pop.frame
-      c.in-Some-pop.ensures.items g.met.S.Key.Eq.laws c.back.new.self (memory_of g.M.Memo c.leave.new.self)
-      c.back.ensures (omega (arith, c.if-stack-len.false, c.len.ensures)) c.in_ok-leave.ensures.only_finished_go
-      c.in_ok-leave.ensures.capacity);
+  goes_on = λ first walk h. shown_left (c.turns.invariant.goes_on first walk h) c.pop.new.self.items
+      c.in-Some-pop.frame c.in-Some-pop.ensures.items g.met.S.Key.Eq.laws c.back.new.self c.truncate.new.self.items
+      (memory_of g.M.Memo c.leave.new.self) c.truncate.ensures.items c.back.ensures
+      (omega (arith, c.if-stack-len.false, c.len.ensures)) c.in_ok-leave.ensures.only_finished_go
+      c.in_ok-leave.ensures.capacity;
 }
 
 pub returns-in_err-leave-clause-err : goal.returns-in_err-leave-clause-err

@@ -1,8 +1,13 @@
-use Rattle.std.proofs.Common.{◌≡◌, ◌≢◌, ◌+◌, ◌∙◌, sym, refl, ⊎_elim}
+use Rattle.std.proofs.Common.{◌≡◌, ◌≢◌, ◌+◌, ◌∙◌, sym, refl, ◌⊎◌, inl, inr}
+use Rattle.transposition.specs.declared.memo.Known.{Known}
 use Rattle.transposition.specs.declared.memo.Known.TheVariants.{New, Live, Finished}
 use Rattle.dfs_core.specs.Laid.{memory_of}
 use Rattle.dfs_core.proofs.Showing.{memory_same, shown_step, shown_win, shown_new, shown_passes}
 use Rattle.dfs_core.proofs.advance.try_step.Goals as goal
+
+not_new : {known : Known} → (known ≡ Live) ⊎ (known ≡ Finished) → known ≢ New
+not_new (inl a) e = cc
+not_new (inr a) e = cc
 
 pub go-undo-requires : goal.go-undo-requires
 go-undo-requires g c =
@@ -28,14 +33,11 @@ returns-in-New-clause-met g c = λ first walk h.
 
 pub returns-in-Live-clause-known : goal.returns-in-Live-clause-known
 returns-in-Live-clause-known g c = λ first walk h.
-    let known : c.look.result ≢ New = λ e. ⊎_elim
-    (λ a. let b : c.look.result ≡ Live = a in cc)
-    (λ a. let b : c.look.result ≡ Finished = a in cc)
-    c.in-Live.is in
     shown_passes h c.index-step.result.now c.requires.untried (sym c.index-step.ensures) c.go-undo.result
     c.go-undo.new.self
     (record { undone = c.go-undo.ensures.undo; state_is = c.go-undo.ensures.state; same_play = c.go-undo.ensures.play })
     (sym c.is_won.ensures ∙ c.if-is_won.false) c.key-key.result c.key-key.ensures g.met.S.Key.Eq.laws
     c.back-in-Live.new.self (record { begin = c.args.stack.now.top.begin; next = c.args.stack.now.top.next + 1 })
     c.look.result (memory_of g.M.Memo c.look.new.self) c.back-in-Live.ensures refl refl
-    c.look.ensures.answer known c.look.ensures.live c.look.ensures.finished c.look.ensures.capacity
+    c.look.ensures.answer (not_new c.in-Live.is) c.look.ensures.live c.look.ensures.finished
+    c.look.ensures.capacity

@@ -1,13 +1,12 @@
-use Rattle.std.proofs.Common.{◌+◌, ◌∙◌, sym, ap, subst, [], ◌∷◌, ◌++◌, length-append, arith, true, false}
-use Rattle.dfs_core.specs.Standing.{problem_from, IsSearch}
-use Rattle.dfs_core.specs.Laid.{Shows, values, steps_of}
+use Rattle.std.proofs.Common.{◌∙◌, sym, ap, [], ◌∷◌, ◌++◌, length-append, arith}
+use Rattle.dfs_core.specs.Standing.{problem_from}
+use Rattle.dfs_core.specs.Laid.{values, steps_of}
 use Rattle.dfs_core.proofs.Moves.{clean_none, follows_none, walk_none}
 use Rattle.dfs_core.proofs.Keeping.{fresh_none, fresh_one}
 use Rattle.dfs_core.proofs.Showing.{shown_started, shown_leads_back, shown_ends, shown_win_ends, before_new, new_trail}
 use Rattle.dfs_core.proofs.Showing.{new_trail_fresh}
-use Rattle.dfs_core.proofs.Answering.{as_win, as_new, as_over, before_win, before_end, answered}
+use Rattle.dfs_core.proofs.Answering.{as_met, before_win, before_end, answered}
 use Rattle.dfs_core.proofs.depth_first.run.Goals as goal
-use Rattle.dfs_core.specs.Search.{IsFreshIn}
 
 pub returns-then-not-branch-clause-answer : goal.returns-then-not-branch-clause-answer
 returns-then-not-branch-clause-answer g c =
@@ -37,8 +36,7 @@ boards-init g c =
     } in
     record {
       walk = [] ∷ [];
-      shown = subst (λ sp. Shows (IsSearch g.S.Space g.S.Key.PartialEq.eq) c.args.space.now ([] ∷ [])
-          (record started { space = sp })) (sym c.in_ok-expand.ensures.same)
+      shown = rw c.in_ok-expand.ensures.same
           (shown_started g.S.Space g.S.Key.PartialEq.eq started c.requires.not_won c.requires.no_frames
           (x.appended ∙ ap (λ xs. xs ++ items) c.requires.no_steps) x.differ c.requires.at_begin c.requires.none_tried
           (x.live_is ∙ (ap (λ ks. ks ++ c.key-key.result ∷ []) c.requires.not_live
@@ -56,18 +54,18 @@ returns-in_err-step-clause-leads g c =
 pub returns-in_err-trail-in-Won-clause-leads : goal.returns-in_err-trail-in-Won-clause-leads
 returns-in_err-trail-in-Won-clause-leads g c =
     let met = c.in_ok-step.ensures.met c.args.space.now c.boards.invariant.walk c.boards.invariant.shown in
-    shown_leads_back (before_win (as_win g.S.Space g.S.Key.PartialEq.eq c.in-Won.is met))
+    shown_leads_back (before_win (as_met g.S.Space g.S.Key.PartialEq.eq c.in-Won.is met))
 
 pub returns-in-Won-clause-leads : goal.returns-in-Won-clause-leads
 returns-in-Won-clause-leads g c =
     let met = c.in_ok-step.ensures.met c.args.space.now c.boards.invariant.walk c.boards.invariant.shown in
-    shown_leads_back (before_win (as_win g.S.Space g.S.Key.PartialEq.eq c.in-Won.is met))
+    shown_leads_back (before_win (as_met g.S.Space g.S.Key.PartialEq.eq c.in-Won.is met))
 
 pub returns-in-Won-clause-answer : goal.returns-in-Won-clause-answer
 returns-in-Won-clause-answer g c =
     let i = c.boards.invariant in
     let met = c.in_ok-step.ensures.met c.args.space.now i.walk i.shown in
-    let w = as_win g.S.Space g.S.Key.PartialEq.eq c.in-Won.is met in
+    let w = as_met g.S.Space g.S.Key.PartialEq.eq c.in-Won.is met in
     let trail = c.in_ok-trail-in-Won.ensures ∙ ap (λ fs. steps_of fs ++ c.in-Won.step ∷ []) c.deref.ensures.value in
     answered (before_win w) (c.in_ok-step.ensures.capacity ∙ i.capacity) i.count (λ e. cc)
     (shown_win_ends c.in-Won.step w _ trail)
@@ -76,31 +74,30 @@ pub step_on-requires : goal.step_on-requires
 step_on-requires g c =
     let i = c.boards.invariant in
     let met = c.in_ok-step.ensures.met c.args.space.now i.walk i.shown in
-    record { first = c.args.space.now; walk = i.walk; shown = as_new g.S.Space g.S.Key.PartialEq.eq c.in-New.is met }
+    record { first = c.args.space.now; walk = i.walk; shown = as_met g.S.Space g.S.Key.PartialEq.eq c.in-New.is met }
 
 pub returns-in_err-step_on-in-New-clause-leads : goal.returns-in_err-step_on-in-New-clause-leads
 returns-in_err-step_on-in-New-clause-leads g c =
     let i = c.boards.invariant in
     let met = c.in_ok-step.ensures.met c.args.space.now i.walk i.shown in
-    c.step_on.ensures.leads c.args.space.now i.walk (as_new g.S.Space g.S.Key.PartialEq.eq c.in-New.is met)
+    c.step_on.ensures.leads c.args.space.now i.walk (as_met g.S.Space g.S.Key.PartialEq.eq c.in-New.is met)
 
 pub returns-then-not-branch-2-clause-leads : goal.returns-then-not-branch-2-clause-leads
 returns-then-not-branch-2-clause-leads g c =
     let i = c.boards.invariant in
     let met = c.in_ok-step.ensures.met c.args.space.now i.walk i.shown in
-    c.step_on.ensures.leads c.args.space.now i.walk (as_new g.S.Space g.S.Key.PartialEq.eq c.in-New.is met)
+    c.step_on.ensures.leads c.args.space.now i.walk (as_met g.S.Space g.S.Key.PartialEq.eq c.in-New.is met)
 
 pub returns-then-not-branch-2-clause-answer : goal.returns-then-not-branch-2-clause-answer
 returns-then-not-branch-2-clause-answer g c =
     let i = c.boards.invariant in
-    let about = problem_from g.S.Space g.S.Key.PartialEq.eq c.args.space.now in
     let met = c.in_ok-step.ensures.met c.args.space.now i.walk i.shown in
-    let n = as_new g.S.Space g.S.Key.PartialEq.eq c.in-New.is met in
+    let n = as_met g.S.Space g.S.Key.PartialEq.eq c.in-New.is met in
     let s = rw c.if-not-branch-2.true at c.in_ok-step_on-in-New.ensures.spent in
     let z = steps_of c.advance.new.stack.frames.items ++ c.in-New.met.step ∷ [] in
     let follows = new_trail g.met.S.Key.Eq.laws n in
     let capacity = c.in_ok-step.ensures.capacity ∙ i.capacity in
-    let fresh = subst (λ k. IsFreshIn about k (i.walk ++ z ∷ [])) capacity (new_trail_fresh g.met.S.Key.Eq.laws n) in
+    let fresh = rw capacity at (new_trail_fresh g.met.S.Key.Eq.laws n) in
     answered (before_new n) capacity (i.count ∙ sym s.0) (λ e. s.1) (z, follows.0, follows.1, fresh)
 
 pub boards-preserved : goal.boards-preserved
@@ -113,7 +110,7 @@ boards-preserved g c =
     record {
       walk = i.walk ++ z ∷ [];
       shown = expands c.args.space.now i.walk
-          (as_new g.S.Space g.S.Key.PartialEq.eq c.in-New.is met);
+          (as_met g.S.Space g.S.Key.PartialEq.eq c.in-New.is met);
       count = omega (arith, i.count, s.0, length-append i.walk (z ∷ []));
       limit = c.in_ok-step_on-in-New.ensures.limit ∙ i.limit;
       capacity = c.in_ok-step_on-in-New.ensures.capacity ∙ (c.in_ok-step.ensures.capacity ∙ i.capacity);
@@ -122,13 +119,13 @@ boards-preserved g c =
 pub returns-in-Exhausted-clause-leads : goal.returns-in-Exhausted-clause-leads
 returns-in-Exhausted-clause-leads g c =
     let met = c.in_ok-step.ensures.met c.args.space.now c.boards.invariant.walk c.boards.invariant.shown in
-    shown_leads_back (before_end (as_over g.S.Space g.S.Key.PartialEq.eq c.in-Exhausted.is met))
+    shown_leads_back (before_end (as_met g.S.Space g.S.Key.PartialEq.eq c.in-Exhausted.is met))
 
 pub returns-in-Exhausted-clause-answer : goal.returns-in-Exhausted-clause-answer
 returns-in-Exhausted-clause-answer g c =
     let i = c.boards.invariant in
     let met = c.in_ok-step.ensures.met c.args.space.now i.walk i.shown in
-    let o = as_over g.S.Space g.S.Key.PartialEq.eq c.in-Exhausted.is met in
+    let o = as_met g.S.Space g.S.Key.PartialEq.eq c.in-Exhausted.is met in
     answered (before_end o) (c.in_ok-step.ensures.capacity ∙ i.capacity) i.count (λ e. cc) (shown_ends o)
 
 pub boards-smaller : goal.boards-smaller

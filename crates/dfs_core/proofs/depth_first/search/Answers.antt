@@ -1,4 +1,4 @@
-use Rattle.std.proofs.Common.{◌∙◌, refl, sym, subst, [], arith, true, IsSome}
+use Rattle.std.proofs.Common.{◌∙◌, refl, sym, subst, [], arith}
 use Rattle.std.proofs.lemmas.Result.{IfOk-weaker}
 use Rattle.dfs_core.specs.Search.{game}
 use Rattle.dfs_core.specs.Standing.{problem_from}
@@ -23,7 +23,7 @@ returns-then-is_won-clause-answer g c =
     }
 
 pub rewind-requires : goal.rewind-requires
-rewind-requires g c = subst (λ o. IsSome o) (sym c.run-found.ensures.leads) refl
+rewind-requires g c = rw c.run-found.ensures.leads refl
 
 pub returns-clause-back : goal.returns-clause-back
 returns-clause-back g c = some_same (sym c.rewind.ensures ∙ c.run-found.ensures.leads)

@@ -2,7 +2,7 @@ use Rattle.std.proofs.Common.{◌∙◌, sym, subst, [], ◌∷◌, ◌++◌, Bo
 use Rattle.std.specs.Bool.{OnTrue}
 use Rattle.std.proofs.lemmas.Result.{IfOk-weaker}
 use Rattle.dfs_core.specs.Standing.{IsExpanded, IsSearch}
-use Rattle.dfs_core.specs.Laid.{Shows, LeadsBack, stack_view, memory_of, values, steps_of}
+use Rattle.dfs_core.specs.Laid.{Shows, stack_view, memory_of, values, steps_of}
 use Rattle.dfs_core.proofs.Showing.{new_room, new_undo, new_refused, new_leads_back, shown_expanded}
 use Rattle.dfs_core.proofs.expand.step_on.Goals as goal
 
@@ -19,13 +19,11 @@ descend-requires-clause-back g c = new_undo g.met.S.Key.Eq.laws c.requires.shown
 pub returns-in_err-descend-clause-leads : goal.returns-in_err-descend-clause-leads
 returns-in_err-descend-clause-leads g c = λ first walk h.
     let e = c.in_err-descend.ensures in
-    subst (λ fs. LeadsBack g.S.Space fs c.descend.new.space first) (sym e.err_frames)
-    (new_refused g.met.S.Key.Eq.laws h c.descend.new.space e.err)
+    rw e.err_frames (new_refused g.met.S.Key.Eq.laws h c.descend.new.space e.err)
 
 pub returns-clause-leads : goal.returns-clause-leads
 returns-clause-leads g c = λ first walk h.
-    subst (λ sp. LeadsBack g.S.Space c.descend.new.stack.frames.items sp first)
-    (sym (c.expand.ensures.same ∙ c.in_ok-descend.ensures.ok_space))
+    rw (c.expand.ensures.same ∙ c.in_ok-descend.ensures.ok_space)
     (new_leads_back g.met.S.Key.Eq.laws h c.in_ok-descend.ensures.ok)
 
 pub returns-clause-expands : goal.returns-clause-expands
