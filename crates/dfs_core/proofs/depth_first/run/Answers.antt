@@ -1,6 +1,7 @@
-use Rattle.std.proofs.Common.{◌∙◌, sym, ap, [], ◌∷◌, ◌++◌, length-append, arith}
-use Rattle.dfs_core.specs.Standing.{problem_from}
-use Rattle.dfs_core.specs.Laid.{values, steps_of}
+use Rattle.std.proofs.Common.{◌∙◌, sym, ap, subst, [], ◌∷◌, ◌++◌, length-append, arith}
+use Rattle.dfs_core.specs.Search.{IsFreshIn}
+use Rattle.dfs_core.specs.Standing.{problem_from, IsSearch}
+use Rattle.dfs_core.specs.Laid.{Shows, values, steps_of}
 use Rattle.dfs_core.proofs.Moves.{clean_none, follows_none, walk_none}
 use Rattle.dfs_core.proofs.Keeping.{fresh_none, fresh_one}
 use Rattle.dfs_core.proofs.Showing.{shown_started, shown_leads_back, shown_ends, shown_win_ends, before_new, new_trail}
@@ -36,12 +37,12 @@ boards-init g c =
     } in
     record {
       walk = [] ∷ [];
-      shown = rw c.in_ok-expand.ensures.same
+      shown = subst (λ sp. Shows (IsSearch g.S.Space g.S.Key.PartialEq.eq) c.args.space.now ([] ∷ [])
+          (record started { space = sp })) (sym c.in_ok-expand.ensures.same)
           (shown_started g.S.Space g.S.Key.PartialEq.eq started c.requires.not_won c.requires.no_frames
           (x.appended ∙ ap (λ xs. xs ++ items) c.requires.no_steps) x.differ c.requires.at_begin c.requires.none_tried
           (x.live_is ∙ (ap (λ ks. ks ++ c.key-key.result ∷ []) c.requires.not_live
-          ∙ ap (λ k. k ∷ []) c.key-key.ensures))
-          (x.finished_is ∙ c.requires.not_finished));
+          ∙ ap (λ k. k ∷ []) c.key-key.ensures)) (x.finished_is ∙ c.requires.not_finished));
       count = sym s.0;
       limit = c.in_ok-expand.ensures.limit;
       capacity = c.in_ok-expand.ensures.capacity;
@@ -91,13 +92,14 @@ returns-then-not-branch-2-clause-leads g c =
 pub returns-then-not-branch-2-clause-answer : goal.returns-then-not-branch-2-clause-answer
 returns-then-not-branch-2-clause-answer g c =
     let i = c.boards.invariant in
+    let about = problem_from g.S.Space g.S.Key.PartialEq.eq c.args.space.now in
     let met = c.in_ok-step.ensures.met c.args.space.now i.walk i.shown in
     let n = as_met g.S.Space g.S.Key.PartialEq.eq c.in-New.is met in
     let s = rw c.if-not-branch-2.true at c.in_ok-step_on-in-New.ensures.spent in
     let z = steps_of c.advance.new.stack.frames.items ++ c.in-New.met.step ∷ [] in
     let follows = new_trail g.met.S.Key.Eq.laws n in
     let capacity = c.in_ok-step.ensures.capacity ∙ i.capacity in
-    let fresh = rw capacity at (new_trail_fresh g.met.S.Key.Eq.laws n) in
+    let fresh = subst (λ k. IsFreshIn about k (i.walk ++ z ∷ [])) capacity (new_trail_fresh g.met.S.Key.Eq.laws n) in
     answered (before_new n) capacity (i.count ∙ sym s.0) (λ e. s.1) (z, follows.0, follows.1, fresh)
 
 pub boards-preserved : goal.boards-preserved
@@ -109,8 +111,7 @@ boards-preserved g c =
     let expands = rw c.if-not-branch-2.false at c.in_ok-step_on-in-New.ensures.expands in
     record {
       walk = i.walk ++ z ∷ [];
-      shown = expands c.args.space.now i.walk
-          (as_met g.S.Space g.S.Key.PartialEq.eq c.in-New.is met);
+      shown = expands c.args.space.now i.walk (as_met g.S.Space g.S.Key.PartialEq.eq c.in-New.is met);
       count = omega (arith, i.count, s.0, length-append i.walk (z ∷ []));
       limit = c.in_ok-step_on-in-New.ensures.limit ∙ i.limit;
       capacity = c.in_ok-step_on-in-New.ensures.capacity ∙ (c.in_ok-step.ensures.capacity ∙ i.capacity);

@@ -39,5 +39,4 @@ returns-clause-expands g c =
     (record { space = sp; stack = record descended { steps = c.expand.new.steps.items }; memory = memory }))
     (sym (c.expand.ensures.same ∙ c.in_ok-descend.ensures.ok_space))
     (shown_expanded g.met.S.Key.Eq.laws h c.in_ok-descend.ensures.ok c.expand.new.steps.items memory x
-    c.expand.ensures.capacity)))
-    c.expand.ensures.expanded
+    c.expand.ensures.capacity))) c.expand.ensures.expanded
