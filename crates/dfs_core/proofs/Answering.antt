@@ -1,5 +1,6 @@
 -- What a search answers when it ends.
-use Rattle.std.proofs.Common.{◌≡◌, ℕ, ◌+◌, Bool, subst, List, length}
+use Rattle.std.proofs.Common.{◌≡◌, ℕ, ◌+◌, Bool, true, subst, List, length}
+use Rattle.std.specs.Bool.{OnTrue}
 use Rattle.dfs_core.specs.Search.{game, IsFreshIn}
 use Rattle.dfs_core.specs.Standing.{problem_from, IsSearch, IsWin, IsOver, HasMet}
 use Rattle.dfs_core.specs.Laid.{Values, Shows}
@@ -8,6 +9,17 @@ use Rattle.dfs_core.specs.declared.space.Space.{Ghosts}
 use Rattle.dfs_core.specs.declared.advance.Met.{Met}
 use Rattle.dfs_core.specs.declared.trail.Found.{Found}
 use Rattle.dfs_core.specs.declared.trail.Found.TheVariants as found
+
+-- what was told of the case that is
+pub told : {A : Type 0} {b : Bool} → b ≡ true → OnTrue b A → A
+told {A} e h = subst (λ b. OnTrue b A) e h
+
+-- neither a win nor an end says that all nodes were spent
+pub won_not_spent : {Step A : Type 0} {z : List Step} → (let f : Found Step = found.Won z in f) ≡ found.SpentAll → A
+won_not_spent e = cc
+
+pub end_not_spent : {Step A : Type 0} → (let f : Found Step = found.Exhausted in f) ≡ found.SpentAll → A
+end_not_spent e = cc
 
 module _ {S State Step Key Undo : Type 0} (space : Ghosts S Key Step Undo State) (eq : Key → Key → Bool)
     {first : S} {walk : List (List Step)} {now : Values S Step Key Undo} where

@@ -6,7 +6,7 @@ use Rattle.dfs_core.proofs.Moves.{clean_none, follows_none, walk_none}
 use Rattle.dfs_core.proofs.Keeping.{fresh_none, fresh_one}
 use Rattle.dfs_core.proofs.Showing.{shown_started, shown_leads_back, shown_ends, shown_win_ends, before_new, new_trail}
 use Rattle.dfs_core.proofs.Showing.{new_trail_fresh}
-use Rattle.dfs_core.proofs.Answering.{as_met, before_win, before_end, answered}
+use Rattle.dfs_core.proofs.Answering.{as_met, before_win, before_end, answered, told, won_not_spent, end_not_spent}
 use Rattle.dfs_core.proofs.depth_first.run.Goals as goal
 
 pub returns-then-not-branch-clause-answer : goal.returns-then-not-branch-clause-answer
@@ -25,7 +25,7 @@ returns-then-not-branch-clause-answer g c =
 
 pub boards-init : goal.boards-init
 boards-init g c =
-    let x = rw c.if-not-branch.false at c.in_ok-expand.ensures.expanded in
+    let x = told c.if-not-branch.false c.in_ok-expand.ensures.expanded in
     let s = rw c.if-not-branch.false at c.in_ok-expand.ensures.spent in
     let items = (g.S.Space.play c.args.space.now).steps (g.S.Space.state c.args.space.now) in
     let started = record (values g.M.Memo c.args.space.now c.args.stack.now c.expand.new.memo) {
@@ -68,7 +68,7 @@ returns-in-Won-clause-answer g c =
     let met = c.in_ok-step.ensures.met c.args.space.now i.walk i.shown in
     let w = as_met g.S.Space g.S.Key.PartialEq.eq c.in-Won.is met in
     let trail = c.in_ok-trail-in-Won.ensures ∙ ap (λ fs. steps_of fs ++ c.in-Won.step ∷ []) c.deref.ensures.value in
-    answered (before_win w) (c.in_ok-step.ensures.capacity ∙ i.capacity) i.count (λ e. cc)
+    answered (before_win w) (c.in_ok-step.ensures.capacity ∙ i.capacity) i.count won_not_spent
     (shown_win_ends c.in-Won.step w _ trail)
 
 pub step_on-requires : goal.step_on-requires
@@ -108,7 +108,7 @@ boards-preserved g c =
     let s = rw c.if-not-branch-2.false at c.in_ok-step_on-in-New.ensures.spent in
     let z = steps_of c.advance.new.stack.frames.items ++ c.in-New.met.step ∷ [] in
     let met = c.in_ok-step.ensures.met c.args.space.now i.walk i.shown in
-    let expands = rw c.if-not-branch-2.false at c.in_ok-step_on-in-New.ensures.expands in
+    let expands = told c.if-not-branch-2.false c.in_ok-step_on-in-New.ensures.expands in
     record {
       walk = i.walk ++ z ∷ [];
       shown = expands c.args.space.now i.walk (as_met g.S.Space g.S.Key.PartialEq.eq c.in-New.is met);
@@ -127,7 +127,7 @@ returns-in-Exhausted-clause-answer g c =
     let i = c.boards.invariant in
     let met = c.in_ok-step.ensures.met c.args.space.now i.walk i.shown in
     let o = as_met g.S.Space g.S.Key.PartialEq.eq c.in-Exhausted.is met in
-    answered (before_end o) (c.in_ok-step.ensures.capacity ∙ i.capacity) i.count (λ e. cc) (shown_ends o)
+    answered (before_end o) (c.in_ok-step.ensures.capacity ∙ i.capacity) i.count end_not_spent (shown_ends o)
 
 pub boards-smaller : goal.boards-smaller
 boards-smaller g c =

@@ -7,6 +7,7 @@ use Rattle.dfs_core.proofs.Moves.{follows_none, walk_none}
 use Rattle.dfs_core.proofs.Keeping.{fresh_none}
 use Rattle.trails.proofs.NoWin.{none_wins}
 use Rattle.dfs_core.proofs.Standings.{some_same}
+use Rattle.dfs_core.proofs.Answering.{won_not_spent}
 use Rattle.dfs_core.proofs.depth_first.search.Goals as goal
 
 pub returns-then-is_won-clause-answer : goal.returns-then-is_won-clause-answer
@@ -17,7 +18,7 @@ returns-then-is_won-clause-answer g c =
       is_walk = walk_none about;
       fresh = fresh_none about (g.M.Memo.capacity c.args.memo);
       count = omega arith;
-      spent_all = λ e. cc;
+      spent_all = won_not_spent;
       ends = rw (c.from_vec.ensures ∙ c.new-steps.ensures.items)
           (follows_none about, tt, sym c.is_won.ensures ∙ c.if-is_won.true);
     }
