@@ -307,8 +307,7 @@ module _ {S State Step Key Undo : Type 0} {space : Ghosts S Key Step Undo State}
     -- the next trail is clean and follows the walk
     pub new_trail : IsCleanIn about (steps_of now.stack.frames ++ new.step ∷ [])
         × FollowsIn about walk (steps_of now.stack.frames ++ new.step ∷ [])
-    new_trail =
-        let u = h.is.before.underway in
+    new_trail = let u = h.is.before.underway in
         let clean = next_clean about u laws new.step h.is.made.is_next (new_won b h.is.made) key_absent in
         subst (λ l. IsCleanIn about l × FollowsIn about walk l) (sym z_is)
         (clean, follows about u new.step h.is.made.is_next)
