@@ -2,7 +2,7 @@
 use Rattle.std.proofs.Common.{◌≡◌, ℕ, ◌+◌, ◌-◌, ◌<◌, ◌≤◌, zero, suc, Bool, true, false, ◌&&◌, List, [], ◌∷◌, ◌++◌, map, length, take, refl, ap, sym, ◌∙◌, arith, length-append, length-drop, drop, get_or, append-nil, append_assoc, true≢false}
 use Rattle.std.specs.Prelude.{Option, Some, None, is_some, not, ◌||◌, ◌==◌, cond, min, nat_lt, nat_le, slice_get, if◌then◌else◌}
 use Rattle.std.specs.Option.{option_to_list}
-use Rattle.std.specs.List.{All, filter, range_with_len}
+use Rattle.std.specs.List.{All, filter, flat_map, range_with_len}
 use Rattle.std.specs.Int.{bit_at}
 use Rattle.std.proofs.lemmas.List.{take-take, take_more, map-append}
 use Rattle.std.proofs.lemmas.List.Elements.{All-append, All-cons, All-nil, All-head, All-tail, filter-append}
@@ -23,9 +23,9 @@ use Rattle.game_rules.specs.declared.Move.TheVariants.{Carry}
 use Rattle.game_rules.specs.declared.Place.{Place}
 use Rattle.game_rules.specs.declared.Place.TheVariants.{Tableau, Cell, Reserve, Waste, Foundation, Hole, Slot}
 use Rattle.game_rules.specs.Rules.{moves_groups}
-use Rattle.game_rules.specs.Board.{Board, Pile, has_place, pile_at, top_part}
+use Rattle.game_rules.specs.Board.{Board, Pile, has_place, pile_at, top_of, top_part}
 use Rattle.game_rules.specs.Taking.{can_take, taken, single_at, most_taken, pile_gives}
-use Rattle.game_rules.specs.Putting.{can_put}
+use Rattle.game_rules.specs.Putting.{can_put, goes_on_pile}
 use Rattle.game_rules.specs.Play.{is_legal_move, same_place}
 use Rattle.game_rules.proofs.Limits.{both}
 use Rattle.game_rules.proofs.Listing.{legal_between}
@@ -295,6 +295,27 @@ legal_of-none rules board (offer ∷ offers) to set free given in_free here fits
     ∙ rw (out, and-false (takes_groups to || (offer.count == 1))) refl in
     rw none (legal_of-none rules board offers to set free (All-tail (IsGiven rules board) offer offers given)
     (All-tail (λ (o : Offer). has_bit free o.bit ≡ true) offer offers in_free) here fits apart)
+
+-- if no pile takes a card, nothing may go on one
+put-closed : (rules : RuleParts) (board : Board) (i : ℕ) (cards : List Card)
+    → ((top : Option Card) (card : Card) → goes_on_pile rules top card ≡ false) → can_put rules board (Tableau i) cards ≡ false
+put-closed rules board i [] closed = refl
+put-closed rules board i (card ∷ cards) closed = closed (top_of (pile_at board i).cards) card
+
+pub legal_of-closed : (rules : RuleParts) (board : Board) (offers : List Offer)
+    → ((top : Option Card) (card : Card) → goes_on_pile rules top card ≡ false) → (i : ℕ) → legal_of rules board offers (Tableau i) ≡ []
+legal_of-closed rules board [] closed i = refl
+legal_of-closed rules board (offer ∷ offers) closed i =
+    let to : Place = Tableau i in
+    rw (
+      put-closed rules board i (taken rules board offer.from offer.count) closed,
+      and-false (has_place rules board offer.from && has_place rules board to && not (same_place offer.from to) && can_take rules board offer.from offer.count),
+    )
+    (legal_of-closed rules board offers closed i)
+
+pub flat_map-none : {A : Type 0} (f : A → List Move) (kind : ℕ → A) (ns : List ℕ) → ((n : ℕ) → f (kind n) ≡ []) → flat_map f (map kind ns) ≡ []
+flat_map-none f kind [] none = refl
+flat_map-none f kind (n ∷ ns) none = rw (none n) (flat_map-none f kind ns none)
 
 pub low-bit : (rules : RuleParts) (board : Board) (offer : Offer) → IsGiven rules board offer → offer.bit.place < 64
 low-bit rules board offer given = rw given.bit (bit_of-lt given.card.suit given.card.rank (omega (arith, given.ranked)))

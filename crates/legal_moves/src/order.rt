@@ -1,8 +1,11 @@
 //! The list of the legal moves of a table, in their order.
-ghost use Rattle.std.specs.Prelude.{◌≡◌, ℕ, ◌≤◌, ◌<◌, ◌+◌, ◌∷◌, [], ◌++◌, map, true, ◌||◌, ◌&&◌, ◌==◌, not, length, IsTrue, IfSome, OnOk, OnErr};
+ghost use Rattle.std.specs.Prelude.{◌≡◌, ℕ, ◌≤◌, ◌<◌, ◌+◌, ◌∷◌, [], ◌++◌, map, true, false, Option, ◌||◌, ◌&&◌, ◌==◌, not, length, IsTrue, IfSome, OnOk, OnErr};
 ghost use Rattle.std.specs.List.{All, filter, flat_map, range_with_len};
+ghost use Rattle.card_piles.specs.declared.Card.{Card};
 ghost use Rattle.card_sets.specs.Sets.{has_bit};
+ghost use Rattle.game_rules.specs.declared.Place.TheVariants.{Tableau};
 ghost use Rattle.game_rules.specs.Board.{has_place};
+ghost use Rattle.game_rules.specs.Putting.{goes_on_pile};
 ghost use Rattle.game_rules.specs.Play.{is_legal_move, same_place};
 ghost use Rattle.game_rules.specs.Order.{hole_place, targets, legal_moves};
 ghost use Rattle.game_rules.specs.Belonging.{Belongs};
@@ -15,9 +18,9 @@ use crate::legal::is_legal;
 use crate::offers::{Offer, Offers, offers};
 use crate::places::{Kind, are_apart, place_in};
 use crate::put::{can_go, is_asked_card_by_card, takes_groups};
-use card_piles::NoMemory;
+use card_piles::{Build, NoMemory};
 use card_sets::CardSet;
-use game_model::{Board, Rules, Table};
+use game_model::{Board, Rules, Spaces, Table};
 use game_rules::{Move, Place};
 use std::alloc::{AllocError, Global};
 
@@ -129,6 +132,33 @@ fn list_onto<T: Table>(
     Ok(())
 }
 
+/// Whether no pile takes a card, be it empty or not.
+fn are_piles_closed(rules: &Rules) -> bool
+    ensures { result ≡ true → (top : Option Card) (card : Card) → goes_on_pile rules.now top card ≡ false }
+{
+    matches!(rules.build(), Build::NoBuild) && matches!(rules.spaces(), Spaces::NoFill)
+}
+
+/// Appends the legal carries to the piles. Piles that take no card are passed by, all at once.
+fn list_onto_piles<T: Table>(
+    rules: &Rules,
+    table: &T,
+    offers: &[Offer],
+    free: CardSet,
+    out: &mut Vec<Move>,
+) -> Result<(), AllocError>
+    requires belongs { Belongs rules.now (T.board table.now) }
+    requires given { All (IsGiven rules.now (T.board table.now)) offers.now }
+    requires free { All (λ offer. has_bit free offer.bit ≡ true) offers.now }
+    ensures ok { OnOk result (out.new.items ≡ out.old.items ++ flat_map (legal_of rules.now (T.board table.now) offers.now) (map Tableau (range_with_len 0 rules.now.piles))) }
+    ensures err { OnErr result (StartsWith out.new.items out.old.items) }
+{
+    if are_piles_closed(rules) {
+        return Ok(());
+    }
+    list_onto(rules, table, Kind::Piles, rules.piles(), offers, free, out)
+}
+
 /// Appends the legal carries to the hole, if the game has one.
 fn list_to_hole<T: Table>(
     rules: &Rules,
@@ -180,7 +210,7 @@ fn list_carries<T: Table>(
         free,
         out,
     )?;
-    list_onto(rules, table, Kind::Piles, rules.piles(), offers, free, out)?;
+    list_onto_piles(rules, table, offers, free, out)?;
     list_onto(rules, table, Kind::Cells, rules.cells(), offers, free, out)?;
     Ok(())
 }

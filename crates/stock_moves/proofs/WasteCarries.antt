@@ -17,6 +17,7 @@ use Rattle.game_rules.specs.Putting.{can_put}
 use Rattle.game_rules.specs.Play.{is_legal_move, same_place}
 use Rattle.game_rules.specs.Order.{entry_count, hole_place, sources, targets}
 use Rattle.game_rules.proofs.Listing.{filter-flat_map, legal_between, legal_to, legal_moves-by_place}
+use Rattle.legal_moves.proofs.Offered.{flat_map-none}
 use Rattle.stock_steps.specs.declared.Step.{Step}
 use Rattle.stock_steps.specs.Steps.{is_from_waste, steps_from, waste_carries}
 use Rattle.stock_moves.specs.declared.onto.Kind.TheVariants.{Foundations, Slots, Piles, Cells}
@@ -37,10 +38,6 @@ none_between rules board to from fails (n ∷ counts) =
 -- the carries from the waste between two places
 abbrev waste_between : RuleParts → Board → Place → Place → List Move
 waste_between rules board to from = filter is_from_waste (legal_between rules board to from)
-
-flat_map-none : (f : Place → List Move) (kind : ℕ → Place) (ns : List ℕ) → ((n : ℕ) → f (kind n) ≡ []) → flat_map f (map kind ns) ≡ []
-flat_map-none f kind [] none = refl
-flat_map-none f kind (n ∷ ns) none = rw (none n) (flat_map-none f kind ns none)
 
 -- of the sources the waste alone is left
 waste_alone : (rules : RuleParts) (board : Board) (to : Place)

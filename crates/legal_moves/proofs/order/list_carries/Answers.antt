@@ -5,14 +5,13 @@ use Rattle.legal_moves.proofs.order.list_carries.Goals as goal
 pub returns-clause-ok : goal.returns-clause-ok
 returns-clause-ok g c =
     rw (
-      c.in_ok-list_onto-4.ensures.ok,
       c.in_ok-list_onto-3.ensures.ok,
+      c.in_ok-list_onto_piles.ensures.ok,
       c.in_ok-list_onto-2.ensures.ok,
       c.in_ok-list_to_hole.ensures.ok,
       c.in_ok-list_onto.ensures.ok,
       c.foundation_count.ensures,
       c.slot_count.ensures,
-      c.piles.ensures,
       c.cells.ensures,
       c.requires.belongs.foundations,
       c.requires.belongs.slots,
