@@ -1,11 +1,11 @@
 -- What the places of a board offer, and the moves that are listed of it.
-use Rattle.std.proofs.Common.{◌≡◌, ℕ, ◌+◌, ◌-◌, ◌<◌, ◌≤◌, zero, suc, Bool, true, false, ◌&&◌, List, [], ◌∷◌, ◌++◌, map, length, take, refl, ap, sym, ◌∙◌, arith, length-append, length-drop, drop, get_or, append-nil, append_assoc, true≢false}
+use Rattle.std.proofs.Common.{◌≡◌, ℕ, ◌+◌, ◌-◌, ◌<◌, ◌≤◌, zero, suc, Bool, true, false, ◌&&◌, List, [], ◌∷◌, ◌++◌, map, length, take, refl, ap, sym, ◌∙◌, arith, length-append, length-drop, drop, get_or, append-nil, true≢false}
 use Rattle.std.specs.Prelude.{Option, Some, None, is_some, not, ◌||◌, ◌==◌, cond, min, nat_lt, nat_le, slice_get, if◌then◌else◌}
 use Rattle.std.specs.Option.{option_to_list}
 use Rattle.std.specs.List.{All, filter, flat_map, range_with_len}
 use Rattle.std.specs.Int.{bit_at}
 use Rattle.std.proofs.lemmas.List.{take-take, take_more, map-append}
-use Rattle.std.proofs.lemmas.List.Elements.{All-append, All-cons, All-nil, All-head, All-tail, filter-append}
+use Rattle.std.proofs.lemmas.List.Elements.{All-head, All-tail, filter-append}
 use Rattle.std.proofs.lemmas.List.FromFn.{filter_of_map_range_with_len_more}
 use Rattle.std.proofs.Math.Seq.{take-append_seam}
 use Rattle.std.proofs.lemmas.Bool.Decides.{nat_tests}
@@ -23,8 +23,8 @@ use Rattle.game_rules.specs.declared.Move.TheVariants.{Carry}
 use Rattle.game_rules.specs.declared.Place.{Place}
 use Rattle.game_rules.specs.declared.Place.TheVariants.{Tableau, Cell, Reserve, Waste, Foundation, Hole, Slot}
 use Rattle.game_rules.specs.Rules.{moves_groups}
-use Rattle.game_rules.specs.Board.{Board, Pile, has_place, pile_at, top_of, top_part}
-use Rattle.game_rules.specs.Taking.{can_take, taken, single_at, most_taken, pile_gives}
+use Rattle.game_rules.specs.Board.{Board, Pile, has_place, pile_at, top_of}
+use Rattle.game_rules.specs.Taking.{can_take, taken, single_at, most_taken}
 use Rattle.game_rules.specs.Putting.{can_put, goes_on_pile}
 use Rattle.game_rules.specs.Play.{is_legal_move, same_place}
 use Rattle.game_rules.proofs.Limits.{both}

@@ -1,13 +1,13 @@
 -- Runs of the last cards of a pile, followed from its top.
 use Rattle.std.proofs.Common.{◌≡◌, ℕ, ◌+◌, ◌-◌, ◌<◌, ◌≤◌, zero, suc, Bool, true, false, ◌&&◌, List, [], ◌∷◌, length, get_or, take, drop, refl, ap, sym, ◌∙◌, arith, inl, inr, length-take-le, drop-cons, true≢false}
-use Rattle.std.specs.Prelude.{Option, Some, None, slice_get, not, min, ◌||◌, ◌==◌, nat_lt, nat_le, cond, if◌then◌else◌}
-use Rattle.std.proofs.lemmas.Bool.{eqb-true, false_from_ne_true}
+use Rattle.std.specs.Prelude.{Option, Some, None, slice_get, min, ◌||◌, ◌==◌, nat_lt, nat_le, if◌then◌else◌}
+use Rattle.std.proofs.lemmas.Bool.{false_from_ne_true}
 use Rattle.game_rules.proofs.Limits.{both}
 use Rattle.std.proofs.lemmas.Bool.Decides.{nat_tests, leb_tells}
 use Rattle.std.proofs.lemmas.List.{take-take, drop-drop}
 use Rattle.std.proofs.lemmas.Option.{slice_get_within, get_or_from_slice_get, slice_get-get_or}
 use Rattle.std.proofs.Math.Seq.{take-length, drop-length}
-use Rattle.std.proofs.Math.Bool.{and-true, and-false}
+use Rattle.std.proofs.Math.Bool.{and-false}
 use Rattle.card_piles.specs.declared.Card.{Card}
 use Rattle.card_piles.specs.Builds.{builds_on}
 use Rattle.card_piles.specs.Cards.{place_of}

@@ -1,5 +1,5 @@
 -- The sets of cards that places accept.
-use Rattle.std.specs.Prelude.{◌≡◌, ℕ, Bool, true, false, ◌==◌, ◌&&◌, ◌||◌, not, List, ◌∷◌, length}
+use Rattle.std.specs.Prelude.{◌≡◌, Bool, true, false, ◌==◌, ◌&&◌, ◌||◌, not, List, ◌∷◌, length}
 use Rattle.card_piles.specs.declared.Card.{Card}
 use Rattle.card_piles.specs.Cards.{IsRank}
 use Rattle.card_sets.specs.declared.CardSet.{CardSet}

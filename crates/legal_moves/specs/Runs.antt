@@ -1,5 +1,5 @@
 -- Runs, followed from the top of a pile.
-use Rattle.std.specs.Prelude.{ℕ, ◌-◌, min, Bool, List, length, Option, Some, None, if◌then◌else◌}
+use Rattle.std.specs.Prelude.{ℕ, ◌-◌, min, List, length, Option, Some, None, if◌then◌else◌}
 use Rattle.card_piles.specs.declared.Card.{Card}
 use Rattle.card_piles.specs.Builds.{builds_on}
 use Rattle.game_rules.specs.declared.RuleParts.{RuleParts}

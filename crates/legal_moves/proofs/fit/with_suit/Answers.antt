@@ -1,5 +1,5 @@
-use Rattle.std.proofs.Common.{◌≡◌, refl, sym, true, false, Bool, ◌∙◌, ap}
-use Rattle.std.specs.Prelude.{◌||◌, ◌&&◌, ◌==◌}
+use Rattle.std.proofs.Common.{refl, sym, Bool, ◌∙◌, ap}
+use Rattle.std.specs.Prelude.{◌&&◌, ◌==◌}
 use Rattle.card_piles.specs.declared.Suit.{Suit}
 use Rattle.card_piles.specs.Builds.{same_suit, suits_fit}
 use Rattle.std.proofs.Math.Bool.{and-true, and-false}

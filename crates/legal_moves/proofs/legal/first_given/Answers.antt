@@ -1,10 +1,10 @@
-use Rattle.std.proofs.Common.{◌≡◌, ℕ, ◌+◌, ◌≤◌, ◌<◌, List, refl, ap, sym, ◌∙◌, arith, true, false, subst}
+use Rattle.std.proofs.Common.{◌≡◌, ℕ, ◌≤◌, List, refl, ap, sym, ◌∙◌, arith, true, false}
 use Rattle.std.specs.Prelude.{Some, slice_get}
 use Rattle.card_piles.specs.declared.Card.{Card}
 use Rattle.game_rules.specs.Board.{Pile, pile_at, top_of, top_part, below_top}
 use Rattle.game_rules.specs.Taking.{pile_gives}
-use Rattle.legal_moves.specs.Runs.{most_given, next_down}
-use Rattle.legal_moves.proofs.Runs.{Reached, reached-first, reached-more, gives-reached, stops-at_break}
+use Rattle.legal_moves.specs.Runs.{most_given}
+use Rattle.legal_moves.proofs.Runs.{reached-first, reached-more, gives-reached, stops-at_break}
 use Rattle.legal_moves.proofs.legal.first_given.Goals as goal
 
 pub loop-given-init : goal.loop-given-init

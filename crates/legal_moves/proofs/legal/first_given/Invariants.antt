@@ -1,4 +1,3 @@
-use Rattle.std.proofs.Common.{◌+◌}
 use Rattle.game_rules.specs.Board.{pile_at}
 use Rattle.legal_moves.proofs.Runs.{Reached}
 use Rattle.legal_moves.proofs.legal.first_given.Given as goal

@@ -1,10 +1,10 @@
-use Rattle.std.proofs.Common.{◌≡◌, refl, ap, sym, ◌∙◌, true, false, Bool, ◌&&◌}
+use Rattle.std.proofs.Common.{sym, ◌∙◌}
 use Rattle.std.specs.Prelude.{not}
 use Rattle.game_rules.specs.Board.{Board, has_place}
 use Rattle.game_rules.specs.Play.{same_place}
 use Rattle.game_rules.specs.Taking.{can_take, taken}
 use Rattle.game_rules.specs.Putting.{can_put}
-use Rattle.legal_moves.proofs.Offered.{given-taken, not-taken, legal-given, not_given}
+use Rattle.legal_moves.proofs.Offered.{given-taken, not-taken, not_given}
 use Rattle.legal_moves.proofs.legal.is_legal_carry.Goals as goal
 
 pub can_go-requires-clause-given : goal.can_go-requires-clause-given

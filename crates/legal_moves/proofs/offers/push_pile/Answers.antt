@@ -1,18 +1,15 @@
-use Rattle.std.proofs.Common.{◌≡◌, ℕ, ◌+◌, ◌≤◌, ◌<◌, List, [], ◌∷◌, ◌++◌, length, refl, ap, sym, ◌∙◌, arith, true, false, append_assoc, append-nil}
-use Rattle.std.specs.Prelude.{Some, None, OnOk}
+use Rattle.std.proofs.Common.{◌≡◌, ℕ, ◌+◌, ◌≤◌, [], ◌∷◌, ◌++◌, refl, ap, sym, ◌∙◌, arith, append_assoc, append-nil}
+use Rattle.std.specs.Prelude.{Some, None}
 use Rattle.std.specs.List.{filter}
 use Rattle.std.proofs.lemmas.List.Elements.{All-append, All-cons, All-nil}
 use Rattle.card_piles.specs.declared.Card.{Card}
-use Rattle.game_rules.specs.declared.Place.{Place}
 use Rattle.game_rules.specs.declared.Place.TheVariants.{Tableau}
-use Rattle.game_rules.specs.declared.Move.{Move}
 use Rattle.game_rules.specs.declared.Move.TheVariants.{Carry}
-use Rattle.game_rules.specs.Board.{Board, Pile, pile_at, top_of, top_part, below_top}
+use Rattle.game_rules.specs.Board.{Board, Pile, pile_at, top_of, below_top}
 use Rattle.game_rules.specs.Play.{is_legal_move}
-use Rattle.game_rules.proofs.Listing.{legal_between}
 use Rattle.legal_moves.specs.declared.offers.Offer.{Offer}
 use Rattle.legal_moves.specs.Offers.{IsGiven, legal_of}
-use Rattle.legal_moves.specs.Runs.{most_given, next_down}
+use Rattle.legal_moves.specs.Runs.{most_given}
 use Rattle.legal_moves.proofs.Runs.{Reached, Stops, reached-first, reached-more, stops-at_break, stops-at_most, most_given-le, no_top}
 use Rattle.legal_moves.proofs.Offered.{legal_up_to, legal_up_to-more, legal_of-push, between-pile, given-pile}
 use Rattle.legal_moves.proofs.offers.push_pile.Goals as goal

@@ -1,4 +1,4 @@
-use Rattle.std.proofs.Common.{◌≡◌, ◌+◌, ◌≤◌, ◌++◌}
+use Rattle.std.proofs.Common.{◌≡◌, ◌+◌, ◌++◌}
 use Rattle.std.specs.List.{All}
 use Rattle.arrayvec.specs.ArrayVec.{array_vec_len}
 use Rattle.game_rules.specs.declared.Place.{Place}

@@ -1,11 +1,10 @@
-use Rattle.std.proofs.Common.{◌≡◌, ℕ, ◌+◌, ◌<◌, ◌≤◌, List, length, take, get_or, arith, append_assoc, append-nil, refl}
-use Rattle.std.specs.List.{sum_by}
+use Rattle.std.proofs.Common.{◌<◌, length, arith, append_assoc, append-nil, refl}
 use Rattle.std.proofs.lemmas.Grind.{flat_map-append}
 use Rattle.std.proofs.lemmas.List.FromFn.{map-range_with_len_more}
 use Rattle.std.proofs.lemmas.List.Sums.{sum_by_more, sum_by_more_le, sum_by-take-le}
 use Rattle.game_rules.specs.declared.Place.{Place}
 use Rattle.game_rules.specs.declared.Place.TheVariants.{Tableau}
-use Rattle.game_rules.specs.Board.{Board, Pile, empty_pile}
+use Rattle.game_rules.specs.Board.{Board, empty_pile}
 use Rattle.game_rules.proofs.FewCards.{each_place-few}
 use Rattle.legal_moves.proofs.offers.push_piles.Goals as goal
 

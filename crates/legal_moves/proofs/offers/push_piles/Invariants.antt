@@ -1,4 +1,4 @@
-use Rattle.std.proofs.Common.{◌≡◌, ◌+◌, ◌≤◌, ◌++◌, length, take}
+use Rattle.std.proofs.Common.{◌≡◌, ◌≤◌, length, take}
 use Rattle.std.specs.Prelude.{map}
 use Rattle.std.specs.List.{All, range_with_len, sum_by}
 use Rattle.arrayvec.specs.ArrayVec.{array_vec_len}

@@ -1,12 +1,12 @@
-use Rattle.std.proofs.Common.{◌≡◌, ◌<◌, List, [], ◌∷◌, ◌++◌, length, take, get_or, refl, ap, sym, ◌∙◌, true, false, append_assoc, append-nil}
+use Rattle.std.proofs.Common.{◌≡◌, List, get_or, refl, sym, ◌∙◌, append_assoc}
 use Rattle.game_rules.specs.declared.Move.{Move}
 use Rattle.game_rules.specs.declared.Place.TheVariants.{Tableau}
 use Rattle.game_rules.specs.Board.{Board}
 use Rattle.game_rules.specs.Play.{is_legal_move}
 use Rattle.std.proofs.lemmas.List.Elements.{All-get_or}
 use Rattle.legal_moves.specs.declared.offers.Offer.{Offer}
-use Rattle.legal_moves.specs.Offers.{IsGiven, carry_of, legal_of}
-use Rattle.legal_moves.proofs.Offered.{legal-fitted, legal_of-more_legal, legal_of-more_not}
+use Rattle.legal_moves.specs.Offers.{IsGiven, carry_of}
+use Rattle.legal_moves.proofs.Offered.{legal_of-more_legal, legal_of-more_not}
 use Rattle.legal_moves.proofs.order.list_offers.Goals.{then-may_go+in_ok-push, else-may_go}
 use Rattle.legal_moves.proofs.order.list_offers.Goals as goal
 

@@ -1,7 +1,6 @@
-use Rattle.std.proofs.Common.{◌≡◌, List, [], refl, sym, append-nil}
+use Rattle.std.proofs.Common.{◌≡◌, [], sym, append-nil}
 use Rattle.std.specs.Prelude.{map}
 use Rattle.std.specs.List.{flat_map, range_with_len}
-use Rattle.game_rules.specs.declared.Move.{Move}
 use Rattle.game_rules.specs.declared.Place.TheVariants.{Tableau}
 use Rattle.game_rules.specs.Board.{Board}
 use Rattle.legal_moves.specs.Offers.{legal_of}

@@ -1,5 +1,4 @@
-use Rattle.std.proofs.Common.{◌≡◌, refl, ap, sym, ◌∙◌, append-nil}
-use Rattle.std.proofs.lemmas.Bool.{not-true}
+use Rattle.std.proofs.Common.{sym, append-nil}
 use Rattle.game_rules.specs.Board.{Board}
 use Rattle.legal_moves.proofs.Offered.{legal_of-none}
 use Rattle.legal_moves.proofs.order.list_to.Goals as goal

@@ -1,6 +1,5 @@
 use Rattle.std.proofs.Common.{◌≡◌, ℕ, ◌+◌, List, refl, ap, sym, ◌∙◌, arith, true, false, ◌&&◌}
 use Rattle.std.specs.Prelude.{◌==◌, Some}
-use Rattle.std.proofs.Math.Bool.{and-true}
 use Rattle.card_piles.specs.declared.Card.{Card}
 use Rattle.card_piles.specs.Cards.{place_of}
 use Rattle.game_rules.specs.Rules.{foundation_suit}

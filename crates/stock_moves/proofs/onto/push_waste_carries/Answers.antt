@@ -2,7 +2,6 @@ use Rattle.std.proofs.Common.{◌≡◌, List, [], ◌++◌, sym, ap, ◌∙◌,
 use Rattle.std.proofs.lemmas.List.{nil_from_length}
 use Rattle.packed_state.specs.Packed.{board_of}
 use Rattle.stock_steps.specs.declared.Step.{Step}
-use Rattle.stock_steps.specs.Steps.{steps_from, waste_carries}
 use Rattle.legal_moves.proofs.Offered.{StartsWith-append}
 use Rattle.stock_moves.proofs.WasteCarries.{waste_carries-empty, waste_carries-listed}
 use Rattle.stock_moves.proofs.onto.push_waste_carries.Goals as goal
