@@ -1,4 +1,4 @@
-use Rattle.std.proofs.Common.{◌≡◌, ◌≢◌, ◌+◌, ◌<◌, ◌∙◌, sym, refl, subst, ◌⊎◌, inl, inr}
+use Rattle.std.proofs.Common.{◌≡◌, ◌≢◌, ◌+◌, ◌∙◌, sym, refl, ◌⊎◌, inl, inr}
 use Rattle.transposition.specs.declared.memo.Known.{Known}
 use Rattle.transposition.specs.declared.memo.Known.TheVariants.{New, Live, Finished}
 use Rattle.dfs_core.specs.Laid.{memory_of}
@@ -9,25 +9,9 @@ not_new : {known : Known} → (known ≡ Live) ⊎ (known ≡ Finished) → know
 not_new (inl a) e = cc
 not_new (inr a) e = cc
 
-pub index-step-requires : goal.index-step-requires
-index-step-requires g c =
-    subst (λ n. c.args.stack.now.top.next < n) (sym c.args.stack.now.steps.ok.0) c.requires.untried
-
 pub go-undo-requires : goal.go-undo-requires
 go-undo-requires g c =
     shown_step c.requires.searching.shown c.index-step.result.now c.requires.untried (sym c.index-step.ensures)
-
-pub back-requires : goal.back-requires
-back-requires g c = rw c.go-undo.ensures.undo refl
-
-pub back-requires-in-Live : goal.back-requires-in-Live
-back-requires-in-Live g c = rw c.go-undo.ensures.undo refl
-
-pub returns-in-New-clause-capacity : goal.returns-in-New-clause-capacity
-returns-in-New-clause-capacity g c = c.look.ensures.capacity
-
-pub returns-in-Live-clause-capacity : goal.returns-in-Live-clause-capacity
-returns-in-Live-clause-capacity g c = c.look.ensures.capacity
 
 pub returns-then-is_won-clause-met : goal.returns-then-is_won-clause-met
 returns-then-is_won-clause-met g c = λ first walk h.

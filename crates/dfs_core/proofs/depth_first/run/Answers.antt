@@ -57,19 +57,18 @@ returns-in_err-trail-in-Won-clause-leads g c =
     let met = c.in_ok-step.ensures.met c.args.space.now c.boards.invariant.walk c.boards.invariant.shown in
     shown_leads_back (before_win (as_met g.S.Space g.S.Key.PartialEq.eq c.in-Won.is met))
 
-pub returns-in-Won-clause-leads : goal.returns-in-Won-clause-leads
-returns-in-Won-clause-leads g c =
-    let met = c.in_ok-step.ensures.met c.args.space.now c.boards.invariant.walk c.boards.invariant.shown in
-    shown_leads_back (before_win (as_met g.S.Space g.S.Key.PartialEq.eq c.in-Won.is met))
-
-pub returns-in-Won-clause-answer : goal.returns-in-Won-clause-answer
-returns-in-Won-clause-answer g c =
+pub returns-in-Won : goal.returns-in-Won
+returns-in-Won g c =
     let i = c.boards.invariant in
     let met = c.in_ok-step.ensures.met c.args.space.now i.walk i.shown in
     let w = as_met g.S.Space g.S.Key.PartialEq.eq c.in-Won.is met in
     let trail = c.in_ok-trail-in-Won.ensures ∙ ap (λ fs. steps_of fs ++ c.in-Won.step ∷ []) c.deref.ensures.value in
-    answered (before_win w) (c.in_ok-step.ensures.capacity ∙ i.capacity) i.count won_not_spent
-    (shown_win_ends c.in-Won.step w _ trail)
+    record {
+      leads = shown_leads_back (before_win w);
+      limit = i.limit;
+      answer = answered (before_win w) (c.in_ok-step.ensures.capacity ∙ i.capacity) i.count won_not_spent
+          (shown_win_ends c.in-Won.step w _ trail);
+    }
 
 pub step_on-requires : goal.step_on-requires
 step_on-requires g c =
@@ -83,14 +82,8 @@ returns-in_err-step_on-in-New-clause-leads g c =
     let met = c.in_ok-step.ensures.met c.args.space.now i.walk i.shown in
     c.step_on.ensures.leads c.args.space.now i.walk (as_met g.S.Space g.S.Key.PartialEq.eq c.in-New.is met)
 
-pub returns-then-not-branch-2-clause-leads : goal.returns-then-not-branch-2-clause-leads
-returns-then-not-branch-2-clause-leads g c =
-    let i = c.boards.invariant in
-    let met = c.in_ok-step.ensures.met c.args.space.now i.walk i.shown in
-    c.step_on.ensures.leads c.args.space.now i.walk (as_met g.S.Space g.S.Key.PartialEq.eq c.in-New.is met)
-
-pub returns-then-not-branch-2-clause-answer : goal.returns-then-not-branch-2-clause-answer
-returns-then-not-branch-2-clause-answer g c =
+pub returns-then-not-branch-2 : goal.returns-then-not-branch-2
+returns-then-not-branch-2 g c =
     let i = c.boards.invariant in
     let about = problem_from g.S.Space g.S.Key.PartialEq.eq c.args.space.now in
     let met = c.in_ok-step.ensures.met c.args.space.now i.walk i.shown in
@@ -100,7 +93,11 @@ returns-then-not-branch-2-clause-answer g c =
     let follows = new_trail g.met.S.Key.Eq.laws n in
     let capacity = c.in_ok-step.ensures.capacity ∙ i.capacity in
     let fresh = subst (λ k. IsFreshIn about k (i.walk ++ z ∷ [])) capacity (new_trail_fresh g.met.S.Key.Eq.laws n) in
-    answered (before_new n) capacity (i.count ∙ sym s.0) (λ e. s.1) (z, follows.0, follows.1, fresh)
+    record {
+      leads = c.step_on.ensures.leads c.args.space.now i.walk n;
+      limit = c.in_ok-step_on-in-New.ensures.limit ∙ i.limit;
+      answer = answered (before_new n) capacity (i.count ∙ sym s.0) (λ e. s.1) (z, follows.0, follows.1, fresh);
+    }
 
 pub boards-preserved : goal.boards-preserved
 boards-preserved g c =
@@ -117,17 +114,17 @@ boards-preserved g c =
       capacity = c.in_ok-step_on-in-New.ensures.capacity ∙ (c.in_ok-step.ensures.capacity ∙ i.capacity);
     }
 
-pub returns-in-Exhausted-clause-leads : goal.returns-in-Exhausted-clause-leads
-returns-in-Exhausted-clause-leads g c =
-    let met = c.in_ok-step.ensures.met c.args.space.now c.boards.invariant.walk c.boards.invariant.shown in
-    shown_leads_back (before_end (as_met g.S.Space g.S.Key.PartialEq.eq c.in-Exhausted.is met))
-
-pub returns-in-Exhausted-clause-answer : goal.returns-in-Exhausted-clause-answer
-returns-in-Exhausted-clause-answer g c =
+pub returns-in-Exhausted : goal.returns-in-Exhausted
+returns-in-Exhausted g c =
     let i = c.boards.invariant in
     let met = c.in_ok-step.ensures.met c.args.space.now i.walk i.shown in
     let o = as_met g.S.Space g.S.Key.PartialEq.eq c.in-Exhausted.is met in
-    answered (before_end o) (c.in_ok-step.ensures.capacity ∙ i.capacity) i.count end_not_spent (shown_ends o)
+    record {
+      leads = shown_leads_back (before_end o);
+      limit = i.limit;
+      answer = answered (before_end o) (c.in_ok-step.ensures.capacity ∙ i.capacity) i.count end_not_spent
+          (shown_ends o);
+    }
 
 pub boards-smaller : goal.boards-smaller
 boards-smaller g c =

@@ -1,4 +1,4 @@
-use Rattle.std.proofs.Common.{◌∙◌, refl, sym, subst, [], arith}
+use Rattle.std.proofs.Common.{◌∙◌, sym, subst, [], arith}
 use Rattle.std.proofs.lemmas.Result.{IfOk-weaker}
 use Rattle.dfs_core.specs.Search.{game}
 use Rattle.dfs_core.specs.Standing.{problem_from}
@@ -23,16 +23,15 @@ returns-then-is_won-clause-answer g c =
           (follows_none about, tt, sym c.is_won.ensures ∙ c.if-is_won.true);
     }
 
-pub rewind-requires : goal.rewind-requires
-rewind-requires g c = rw c.run-found.ensures.leads refl
-
-pub returns-clause-back : goal.returns-clause-back
-returns-clause-back g c = some_same (sym c.rewind.ensures ∙ c.run-found.ensures.leads)
-
-pub returns-clause-no_win : goal.returns-clause-no_win
-returns-clause-no_win g c =
+pub returns : goal.returns
+returns g c =
     let about = problem_from g.S.Space g.S.Key.PartialEq.eq c.args.space.now in
-    IfOk-weaker c.run-found.result _ _ (λ found a e complete n.
-    none_wins (game about) (g.S.Space.wins c.args.space.now) about.start a.walk complete a.is_walk
-    (subst (EndsWith (game about) about.start (g.M.Memo.capacity c.args.memo) a.walk) e a.ends) n)
-    c.run-found.ensures.answer
+    record {
+      back = some_same (sym c.rewind.ensures ∙ c.run-found.ensures.leads);
+      limit = c.run-found.ensures.limit;
+      answer = c.run-found.ensures.answer;
+      no_win = IfOk-weaker c.run-found.result _ _ (λ found a e complete n.
+          none_wins (game about) (g.S.Space.wins c.args.space.now) about.start a.walk complete a.is_walk
+          (subst (EndsWith (game about) about.start (g.M.Memo.capacity c.args.memo) a.walk) e a.ends) n)
+          c.run-found.ensures.answer;
+    }

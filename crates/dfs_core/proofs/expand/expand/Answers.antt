@@ -1,12 +1,6 @@
 use Rattle.std.proofs.Common.{◌∙◌}
 use Rattle.dfs_core.proofs.expand.expand.Goals as goal
 
-pub enter-requires-clause-not_live : goal.enter-requires-clause-not_live
-enter-requires-clause-not_live g c = rw c.make_room.ensures.live c.requires.not_live
-
-pub enter-requires-clause-not_finished : goal.enter-requires-clause-not_finished
-enter-requires-clause-not_finished g c = rw c.make_room.ensures.finished c.requires.not_finished
-
 pub returns-clause-expanded : goal.returns-clause-expanded
 returns-clause-expanded g c = record {
   appended = c.in_ok-steps.ensures.ok;
