@@ -2,7 +2,8 @@
 
 ghost use Rattle.std.specs.Prelude.{[], ◌∷◌, ◌≡◌, ◌⊎◌, ℕ, IfSome, List};
 ghost use Rattle.card_piles.specs.Cards.{CardValue, IsRank};
-ghost use Rattle.card_piles.specs.CardText.{card_of_text, rank_letter, rank_of_letter, suit_letter, suit_of_letter, text_of_card};
+ghost use Rattle.card_piles.specs.CardText.{card_of_text, rank_letter, rank_of_letter, suit_letter};
+ghost use Rattle.card_piles.specs.CardText.{suit_of_letter, text_of_card};
 
 use crate::{Card, Suit};
 
@@ -80,6 +81,9 @@ pub fn text_of(card: Card) -> [u8; 2]
 pub fn texts_name_cards()
     ensures names_its_card { (card : CardValue) → IsRank card.rank → card_of_text (text_of_card card) ≡ Some card }
     ensures names_real_cards { (text : List ℕ) (card : CardValue) → card_of_text text ≡ Some card → IsRank card.rank }
-    ensures no_other_two_bytes { (a b : ℕ) (card : CardValue) → card_of_text (a ∷ b ∷ []) ≡ Some card → a ∷ b ∷ [] ≡ text_of_card card }
-    ensures no_other_text { (text : List ℕ) (card : CardValue) → card_of_text text ≡ Some card → (text ≡ text_of_card card) ⊎ ((card.rank ≡ 10) × (text ≡ 49 ∷ 48 ∷ suit_letter card.suit ∷ [])) }
+    ensures no_other_two_bytes { (a b : ℕ) (card : CardValue)
+        → card_of_text (a ∷ b ∷ []) ≡ Some card → a ∷ b ∷ [] ≡ text_of_card card }
+    ensures no_other_text { (text : List ℕ) (card : CardValue)
+        → card_of_text text ≡ Some card → (text ≡ text_of_card card)
+        ⊎ ((card.rank ≡ 10) × (text ≡ 49 ∷ 48 ∷ suit_letter card.suit ∷ [])) }
 {}

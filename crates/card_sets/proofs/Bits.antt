@@ -1,5 +1,6 @@
 -- The bits of a set of cards.
-use Rattle.std.proofs.Common.{◌≡◌, ℕ, ◌+◌, ◌*◌, ◌^◌, ◌%◌, ◌<◌, true, false, refl, ap, sym, ◌∙◌, arith, bit_and, bit_or, inl, inr}
+use Rattle.std.proofs.Common.{◌≡◌, ℕ, ◌+◌, ◌*◌, ◌^◌, ◌%◌, ◌<◌, true, false, refl, ap, sym, ◌∙◌, arith, bit_and, bit_or}
+use Rattle.std.proofs.Common.{inl, inr}
 use Rattle.std.specs.Prelude.{◌||◌, ◌&&◌, ◌==◌}
 use Rattle.std.specs.Int.{bit_at, w64}
 use Rattle.std.proofs.lemmas.Bool.{eqb-true, eq-eqb, ne_eqb}
@@ -32,10 +33,12 @@ bit-is a b r q low low' =
     ]
 
 -- a bit that is set, and all others as they were
-pub set_bit : (bits k i : ℕ) → k < 64 → (bit_at (bit_or bits (1 * 2 ^ k % 18446744073709551616)) i == 1) ≡ (k == i) || (bit_at bits i == 1)
+pub set_bit : (bits k i : ℕ) → k < 64 → (bit_at (bit_or bits (1 * 2 ^ k % 18446744073709551616)) i == 1) ≡ (k == i)
+    || (bit_at bits i == 1)
 set_bit bits k i low =
     elim (eqb_tells k i) [
-      | inl same ↦ rw same.0 (eq-eqb _ _ (ap (λ j. bit_at (bit_or bits (1 * 2 ^ k % 18446744073709551616)) j) (sym same.1) ∙ bit_at_set_same w64 bits k low))
+      | inl same ↦ rw same.0 (eq-eqb _ _ (ap (λ j. bit_at (bit_or bits (1 * 2 ^ k % 18446744073709551616)) j)
+          (sym same.1) ∙ bit_at_set_same w64 bits k low))
       | inr other ↦ rw (other.0, bit_at_set_other w64 bits k low i (λ e. other.1 (sym e))) refl
     ]
 

@@ -13,8 +13,10 @@ use Rattle.game_rules.specs.Board.{Board}
 use Rattle.game_rules.specs.Winning.{row_at}
 use Rattle.deal_reader.specs.Spelling.{entry_tree, list_tree}
 
-pub rows-more : (rules : RuleParts) (board : Board) (r : ℕ) (values more : List Value) (value : Value) (row : List (Option Card))
-    → map view values ≡ map (list_tree entry_tree) (map (row_at rules board) (range_with_len 0 r)) → more ≡ values ++ value ∷ []
+pub rows-more : (rules : RuleParts) (board : Board) (r : ℕ) (values more : List Value) (value : Value)
+    (row : List (Option Card))
+    → map view values ≡ map (list_tree entry_tree) (map (row_at rules board) (range_with_len 0 r))
+    → more ≡ values ++ value ∷ []
     → view value ≡ list_tree entry_tree row → row ≡ row_at rules board r
     → map view more ≡ map (list_tree entry_tree) (map (row_at rules board) (range_with_len 0 (r + 1)))
 rows-more rules board r values more value row so_far pushed is here =

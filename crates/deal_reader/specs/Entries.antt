@@ -1,5 +1,6 @@
 -- The entries of a part in the tree of a deal file, each read at its place in the part.
-use Rattle.std.specs.Prelude.{ℕ, ◌+◌, ◌-◌, ◌^◌, min, List, [], ◌∷◌, length, Option, Some, None, is_some, Result, Ok, Err, ◌≡◌, ◌⊎◌, if◌then◌else◌}
+use Rattle.std.specs.Prelude.{ℕ, ◌+◌, ◌-◌, ◌^◌, min, List, [], ◌∷◌, length, Option, Some, None, is_some, Result, Ok}
+use Rattle.std.specs.Prelude.{Err, ◌≡◌, ◌⊎◌, if◌then◌else◌}
 use Rattle.serde_json.specs.Data.{Data, Items, no_items, item}
 use Rattle.serde_json.specs.Find.{as_null, as_str, as_array}
 use Rattle.json_tree.specs.Choice.{◌>>=◌}
@@ -52,10 +53,12 @@ abbrev pub list_at : {A : Type 0} → Part → (ℕ → Data → Result A DealFa
 list_at part read place d = or_wrong_type part (as_array d) >>= λ entries. entries_from read place entries
 
 -- lists of entries, whose places go on from one list to the next
-abbrev pub lists_from : {A : Type 0} → Part → (ℕ → Data → Result A DealFault) → ℕ → Items → Result (List (List A)) DealFault
+abbrev pub lists_from : {A : Type 0} → Part → (ℕ → Data → Result A DealFault) → ℕ → Items
+    → Result (List (List A)) DealFault
 lists_from part read place no_items = Ok []
 lists_from part read place (item d ds) =
-    list_at part read place d >>= λ list. lists_from part read (place_after place (length list)) ds >>= λ lists. Ok (list ∷ lists)
+    list_at part read place d >>= λ list. lists_from part read (place_after place (length list)) ds
+    >>= λ lists. Ok (list ∷ lists)
 
 -- a list of lists of entries
 abbrev pub lists_at : {A : Type 0} → Part → (ℕ → Data → Result A DealFault) → Data → Result (List (List A)) DealFault

@@ -2,9 +2,11 @@
 use Rattle.std.specs.Prelude.{List, ℕ, ◌++◌, codes, decimal}
 use Rattle.card_piles.specs.CardText.{text_of_card}
 use Rattle.game_rules.specs.declared.Part.{Part}
-use Rattle.game_rules.specs.declared.Part.TheVariants.{Tableau, FaceDown, Cells, Reserve, Stock, Waste, RedealsLeft, Foundations, Hole, Rows}
+use Rattle.game_rules.specs.declared.Part.TheVariants.{Tableau, FaceDown, Cells, Reserve, Stock, Waste, RedealsLeft}
+use Rattle.game_rules.specs.declared.Part.TheVariants.{Foundations, Hole, Rows}
 use Rattle.deal_reader.specs.declared.fault.DealFault.{DealFault}
-use Rattle.deal_reader.specs.declared.fault.DealFault.TheVariants.{TooLong, NotJson, NotObject, UnknownKey, WrongType, NotACard, PlaceFull, MissingCard, ExtraCard, Memory}
+use Rattle.deal_reader.specs.declared.fault.DealFault.TheVariants.{TooLong, NotJson, NotObject, UnknownKey, WrongType}
+use Rattle.deal_reader.specs.declared.fault.DealFault.TheVariants.{NotACard, PlaceFull, MissingCard, ExtraCard, Memory}
 
 -- the name of a part in a fault's text
 abbrev pub part_text : Part → List ℕ

@@ -1,5 +1,6 @@
 -- The deal file: the board that it gives under some rules, or its first fault.
-use Rattle.std.specs.Prelude.{ℕ, ◌-◌, Bool, false, ◌&&◌, not, nat_lt, List, [], ◌∷◌, map, length, replicate, codes, Option, Some, None, Result, Ok, Err, ⊤, if◌then◌else◌}
+use Rattle.std.specs.Prelude.{ℕ, ◌-◌, Bool, false, ◌&&◌, not, nat_lt, List, [], ◌∷◌, map, length, replicate, codes}
+use Rattle.std.specs.Prelude.{Option, Some, None, Result, Ok, Err, ⊤, if◌then◌else◌}
 use Rattle.std.specs.List.{list_any}
 use Rattle.serde_json.specs.Data.{Data}
 use Rattle.json_tree.specs.declared.read.FileFault.{FileFault}
@@ -20,7 +21,8 @@ use Rattle.game_rules.specs.Board.{Board}
 use Rattle.game_rules.specs.Belonging.{foundation_count, most_redeals}
 use Rattle.game_rules.specs.Position.{tableau_full, fault_of, board_of_parts}
 use Rattle.deal_reader.specs.declared.fault.DealFault.{DealFault}
-use Rattle.deal_reader.specs.declared.fault.DealFault.TheVariants.{TooLong, NotJson, NotObject, UnknownKey, PlaceFull, MissingCard, ExtraCard, Memory}
+use Rattle.deal_reader.specs.declared.fault.DealFault.TheVariants.{TooLong, NotJson, NotObject, UnknownKey, PlaceFull}
+use Rattle.deal_reader.specs.declared.fault.DealFault.TheVariants.{MissingCard, ExtraCard, Memory}
 use Rattle.deal_reader.specs.declared.deal.DealParts.{DealParts}
 use Rattle.deal_reader.specs.Entries.{card_at, entry_at, number_at, list_at, lists_at}
 
@@ -58,8 +60,10 @@ deal_of_tree rules top = do
   reserve ← or_default [] (list_at part.Reserve (entry_at part.Reserve) 0) (field (Some top) (codes "reserve"))
   stock ← or_default [] (list_at part.Stock (card_at part.Stock) 0) (field (Some top) (codes "stock"))
   waste ← or_default [] (list_at part.Waste (card_at part.Waste) 0) (field (Some top) (codes "waste"))
-  redeals_left ← or_default (most_redeals rules.redeals) (number_at part.RedealsLeft 0) (field (Some top) (codes "redeals left"))
-  foundations ← or_default (default_foundations rules) (list_at part.Foundations (number_at part.Foundations) 0) (field (Some top) (codes "foundations"))
+  redeals_left ← or_default (most_redeals rules.redeals) (number_at part.RedealsLeft 0)
+      (field (Some top) (codes "redeals left"))
+  foundations ← or_default (default_foundations rules) (list_at part.Foundations (number_at part.Foundations) 0)
+      (field (Some top) (codes "foundations"))
   hole ← or_default [] (list_at part.Hole (card_at part.Hole) 0) (field (Some top) (codes "hole"))
   rows ← or_default [] (lists_at part.Rows (entry_at part.Rows)) (field (Some top) (codes "rows"))
   Ok (record {
@@ -77,7 +81,8 @@ deal_of_tree rules top = do
 
 -- The position of the parts
 
--- the numbers of face-down cards of a file that does not name them: all but the top of each pile, or none where all lie face up
+-- the numbers of face-down cards of a file that does not name them: all but the top of each pile, or none where all lie
+-- face up
 abbrev pub default_face_down : Face → List (List Card) → List ℕ
 default_face_down AllUp tableau = []
 default_face_down TopUp tableau = map (λ cards. length cards - 1) tableau
@@ -111,7 +116,8 @@ has_great_number (Some numbers) = list_any (λ number. nat_lt 255 number) number
 -- heights and redeals are too many long before.
 abbrev pub fault_of_deal : RuleParts → DealParts → Option BoardFault
 fault_of_deal rules deal =
-    if has_great_number deal.face_down && not (tableau_full rules (parts_of_deal rules deal)) then Some (board.PlaceFull part.FaceDown)
+    if has_great_number deal.face_down && not (tableau_full rules (parts_of_deal rules deal))
+    then Some (board.PlaceFull part.FaceDown)
     else fault_of rules (parts_of_deal rules deal)
 
 -- a fault of the position, as a fault of the file
@@ -128,7 +134,8 @@ board_or_fault board (Some fault) = Err (deal_fault fault)
 
 -- the position of a deal, or its first fault
 abbrev pub position_of_deal : RuleParts → DealParts → Result Board DealFault
-position_of_deal rules deal = board_or_fault (board_of_parts rules (parts_of_deal rules deal)) (fault_of_deal rules deal)
+position_of_deal rules deal = board_or_fault (board_of_parts rules (parts_of_deal rules deal))
+    (fault_of_deal rules deal)
 
 -- the position that the tree of a file gives
 unfoldable pub position_of_tree : RuleParts → Data → Result Board DealFault

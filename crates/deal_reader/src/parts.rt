@@ -17,7 +17,8 @@ use serde_json::Value;
 use std::alloc::{AllocError, Global};
 
 fn list<E: Entry>(alloc: Global, part: Part, value: Option<&Value>) -> Result<Items<E>, DealFault>
-    ensures { IsReadAs result (or_default [] (list_at part (E.read part) 0) (option_map (λ v. view v.now) value.entry)) }
+    ensures { IsReadAs result
+        (or_default [] (list_at part (E.read part) 0) (option_map (λ v. view v.now) value.entry)) }
 {
     match value {
         Some(value) => entries::list_at(alloc, part, 0, value),
@@ -39,7 +40,8 @@ fn lists<E: Entry>(
 }
 
 fn face_down(alloc: Global, value: Option<&Value>) -> Result<Option<Items<u64>>, DealFault>
-    ensures { IsReadAs result (if_there (list_at Part.FaceDown (number_at Part.FaceDown) 0) (option_map (λ v. view v.now) value.entry)) }
+    ensures { IsReadAs result (if_there (list_at Part.FaceDown (number_at Part.FaceDown) 0)
+        (option_map (λ v. view v.now) value.entry)) }
 {
     let Some(value) = value else {
         return Ok(None);
@@ -58,7 +60,8 @@ fn most_redeals(redeals: Redeals) -> u8
 }
 
 fn redeals_left(rules: &Rules, value: Option<&Value>) -> Result<u64, DealFault>
-    ensures { result ≡ or_default (most_redeals rules.now.redeals) (number_at Part.RedealsLeft 0) (option_map (λ v. view v.now) value.entry) }
+    ensures { result ≡ or_default (most_redeals rules.now.redeals) (number_at Part.RedealsLeft 0)
+        (option_map (λ v. view v.now) value.entry) }
 {
     match value {
         Some(value) => u64::read_at(Part::RedealsLeft, 0, value),
@@ -88,7 +91,8 @@ fn default_foundations(alloc: Global, rules: &Rules) -> Result<Items<u64>, Alloc
 }
 
 fn foundations(alloc: Global, rules: &Rules, value: Option<&Value>) -> Result<Items<u64>, DealFault>
-    ensures { IsReadAs result (or_default (default_foundations rules.now) (list_at Part.Foundations (number_at Part.Foundations) 0) (option_map (λ v. view v.now) value.entry)) }
+    ensures { IsReadAs result (or_default (default_foundations rules.now) (list_at Part.Foundations
+        (number_at Part.Foundations) 0) (option_map (λ v. view v.now) value.entry)) }
 {
     match value {
         Some(value) => entries::list_at(alloc, Part::Foundations, 0, value),

@@ -5,7 +5,8 @@ ghost use Rattle.serde_json.specs.View.{view};
 ghost use Rattle.game_rules.specs.Belonging.{Belongs};
 ghost use Rattle.game_rules.specs.Position.{tableau_full};
 ghost use Rattle.deal_reader.specs.Entries.{IsReadAs};
-ghost use Rattle.deal_reader.specs.Position.{default_face_down, face_down_or_default, has_great_number, parts_of_deal, position_of_deal, position_of_tree, position_of};
+ghost use Rattle.deal_reader.specs.Position.{default_face_down, face_down_or_default, has_great_number, parts_of_deal};
+ghost use Rattle.deal_reader.specs.Position.{position_of_deal, position_of_tree, position_of};
 ghost use Rattle.deal_reader.specs.Bytes.{narrow, narrowed};
 
 use crate::deal::DealParts;
@@ -61,7 +62,8 @@ fn default_face_down(
 }
 
 fn face_down_of(alloc: Global, face: Face, deal: &DealParts) -> Result<Items<u8>, AllocError>
-    ensures { IfOk result (λ bytes. bytes ≡ map narrow (face_down_or_default face deal.now.tableau deal.now.face_down)) }
+    ensures { IfOk result (λ bytes. bytes ≡ map narrow
+        (face_down_or_default face deal.now.tableau deal.now.face_down)) }
 {
     match &deal.face_down {
         Some(numbers) => narrow_all(alloc, numbers.items()),
@@ -117,7 +119,8 @@ fn is_tableau_full(rules: &Rules, deal: &DealParts) -> bool
 
 // Whether a number above 255 makes the face-down cards the first part that is full.
 fn fills_face_down(rules: &Rules, deal: &DealParts) -> bool
-    ensures { result ≡ (has_great_number deal.now.face_down && not (tableau_full rules.now (parts_of_deal rules.now deal.now))) }
+    ensures { result ≡ (has_great_number deal.now.face_down
+        && not (tableau_full rules.now (parts_of_deal rules.now deal.now))) }
 {
     has_great_number(deal) && !is_tableau_full(rules, deal)
 }

@@ -62,7 +62,8 @@ fn numbers_value(alloc: Global, numbers: &[u8]) -> Result<Value, AllocError>
 
 fn piles_value(alloc: Global, rules: &Rules, board: &Board) -> Result<Value, AllocError>
     requires { Belongs rules.now board.now }
-    ensures { IfOk result (λ value. view value ≡ list_tree (list_tree card_tree) (map (λ pile. pile.cards) board.now.piles)) }
+    ensures { IfOk result (λ value. view value ≡ list_tree (list_tree card_tree)
+        (map (λ pile. pile.cards) board.now.piles)) }
 {
     let mut list = Vec::new(alloc);
     for i in 0..rules.piles() {
@@ -128,7 +129,8 @@ fn row<'s>(rules: &Rules, slots: &'s [Option<Card>], r: u8) -> &'s [Option<Card>
 
 fn rows_value(alloc: Global, rules: &Rules, board: &Board) -> Result<Value, AllocError>
     requires { Belongs rules.now board.now }
-    ensures { IfOk result (λ value. view value ≡ list_tree (list_tree entry_tree) (map (row_at rules.now board.now) (range_with_len 0 (row_count rules.now)))) }
+    ensures { IfOk result (λ value. view value ≡ list_tree (list_tree entry_tree)
+        (map (row_at rules.now board.now) (range_with_len 0 (row_count rules.now)))) }
 {
     let slots = slots_of(alloc, rules, board)?;
     let mut list = Vec::new(alloc);

@@ -31,7 +31,8 @@ fn goes_next(left: Option<Card>, card: Option<Card>) -> bool
 fn is_column_in_order<T: Table>(table: &T, start: u8, column: u8) -> bool
     requires here { start + column < length (T.board table.now).slots }
     requires fits { start + column < 256 }
-    ensures { result ≡ goes_next (if column == 0 then None else entry_at (T.board table.now).slots (start + column - 1)) (entry_at (T.board table.now).slots (start + column)) }
+    ensures { result ≡ goes_next (if column == 0 then None else entry_at (T.board table.now).slots
+        (start + column - 1)) (entry_at (T.board table.now).slots (start + column)) }
 {
     let card = table.slot(start + column);
     if column == 0 {
@@ -59,7 +60,8 @@ fn is_row_in_order<T: Table>(rules: &Rules, table: &T, row: u8) -> bool
 
 fn are_rows_in_order<T: Table>(rules: &Rules, table: &T) -> bool
     requires { length (T.board table.now).slots ≡ 4 * rules.now.decks * rules.now.max_rank }
-    ensures { result ≡ list_all (λ row. is_in_sequence (take (rules.now.max_rank - 1) row)) (rows_of rules.now (T.board table.now)) }
+    ensures { result ≡ list_all (λ row. is_in_sequence (take (rules.now.max_rank - 1) row))
+        (rows_of rules.now (T.board table.now)) }
 {
     let _ = rules.max_rank();
     for row in 0..4 * rules.decks() {

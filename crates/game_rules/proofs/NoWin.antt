@@ -33,12 +33,14 @@ NoneWon rules (board ∷ boards) = (is_won rules board ≡ false) × NoneWon rul
 -- each of the moves leads to one of the boards
 abbrev pub EachLeads : RuleParts → List Board → Board → List Move → Type 0
 EachLeads rules boards board [] = Unit {0}
-EachLeads rules boards board (move ∷ moves) = Contains boards (after rules board move) × EachLeads rules boards board moves
+EachLeads rules boards board (move ∷ moves) = Contains boards (after rules board move)
+    × EachLeads rules boards board moves
 
 -- each legal move of the further boards leads to one of the boards
 abbrev pub EachStays : RuleParts → List Board → List Board → Type 0
 EachStays rules boards [] = Unit {0}
-EachStays rules boards (board ∷ others) = EachLeads rules boards board (legal_moves rules board) × EachStays rules boards others
+EachStays rules boards (board ∷ others) = EachLeads rules boards board (legal_moves rules board)
+    × EachStays rules boards others
 
 no_element : {A : Type 0} (x : A) → Contains [] x → ⊥
 no_element x h = absurd (omega (arith, h.1))
@@ -56,7 +58,8 @@ not_won-listed rules (first ∷ boards) none board here won =
       | inr rest ↦ not_won-listed rules boards none.1 board rest won
     ]
 
-leads-listed : (rules : RuleParts) (boards : List Board) (board : Board) (moves : List Move) → EachLeads rules boards board moves
+leads-listed : (rules : RuleParts) (boards : List Board) (board : Board) (moves : List Move)
+    → EachLeads rules boards board moves
     → (move : Move) → Contains moves move → Contains boards (after rules board move)
 leads-listed rules boards board [] each move here = absurd (no_element move here)
 leads-listed rules boards board (first ∷ moves) each move here =
@@ -66,7 +69,8 @@ leads-listed rules boards board (first ∷ moves) each move here =
     ]
 
 stays-listed : (rules : RuleParts) (boards others : List Board) → EachStays rules boards others
-    → (board : Board) (move : Move) → Contains others board → Legal rules board move → Contains boards (after rules board move)
+    → (board : Board) (move : Move) → Contains others board → Legal rules board move
+    → Contains boards (after rules board move)
 stays-listed rules boards [] each board move here legal = absurd (no_element board here)
 stays-listed rules boards (first ∷ others) each board move here legal =
     elim (Contains-cases board first others here) [

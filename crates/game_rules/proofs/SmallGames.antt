@@ -17,7 +17,8 @@ use Rattle.game_rules.specs.declared.Goal.TheVariants.{Foundations, Hole, Sequen
 use Rattle.game_rules.specs.declared.Move.{Move}
 use Rattle.game_rules.specs.declared.Move.TheVariants.{Carry, Deal, Redeal}
 use Rattle.game_rules.specs.declared.Place.{Place}
-use Rattle.game_rules.specs.declared.Place.TheVariants.{Tableau, Cell, Reserve, Waste, Foundation, Slot, Hole as TheHole}
+use Rattle.game_rules.specs.declared.Place.TheVariants.{Tableau, Cell, Reserve, Waste, Foundation}
+use Rattle.game_rules.specs.declared.Place.TheVariants.{Slot, Hole as TheHole}
 use Rattle.game_rules.specs.Board.{Board, Pile}
 use Rattle.game_rules.specs.Play.{after}
 use Rattle.game_rules.specs.Winning.{Wins, Winnable}
@@ -70,7 +71,8 @@ abbrev with_cell : Option Card → Board → Board
 with_cell card board = record board { cells = card ∷ [] }
 
 -- the two waits in the cell while the ace goes home
-pub cell_frees_the_ace-wins : Wins (one_cell 2) 3 (with_cell None (board_of (up (club 1 ∷ club 2 ∷ []) ∷ []) (0 ∷ 2 ∷ 2 ∷ 2 ∷ [])))
+pub cell_frees_the_ace-wins : Wins (one_cell 2) 3
+    (with_cell None (board_of (up (club 1 ∷ club 2 ∷ []) ∷ []) (0 ∷ 2 ∷ 2 ∷ 2 ∷ [])))
 cell_frees_the_ace-wins = record {
   moves = go (Tableau 0) (Cell 0) ∷ go (Tableau 0) (Foundation 0) ∷ go (Cell 0) (Foundation 0) ∷ [];
   end = with_cell None (board_of (up [] ∷ []) (2 ∷ 2 ∷ 2 ∷ 2 ∷ []));
@@ -80,7 +82,8 @@ cell_frees_the_ace-wins = record {
 }
 
 -- two cards lie on the ace, and the cell holds one
-pub one_cell_too_few-no_win : Winnable (one_cell 3) (with_cell None (board_of (up (club 1 ∷ club 2 ∷ club 3 ∷ []) ∷ []) (0 ∷ 3 ∷ 3 ∷ 3 ∷ []))) → ⊥
+pub one_cell_too_few-no_win : Winnable (one_cell 3)
+    (with_cell None (board_of (up (club 1 ∷ club 2 ∷ club 3 ∷ []) ∷ []) (0 ∷ 3 ∷ 3 ∷ 3 ∷ []))) → ⊥
 one_cell_too_few-no_win =
     listed-no_win _ _ (with_cell (Some (club 3)) (board_of (up (club 1 ∷ club 2 ∷ []) ∷ []) (0 ∷ 3 ∷ 3 ∷ 3 ∷ [])) ∷ [])
     (refl, (refl, tt)) (((1, lit< tt, refl), tt), (tt, tt))
@@ -94,7 +97,8 @@ with_stock stock waste redeals_left board = record board { stock = stock; waste 
 pub last_deal_is_short-wins : Wins (record (plain 1 0) { stock = 4; draw = 3 }) 6
     (with_stock (club 1 ∷ diamond 1 ∷ heart 1 ∷ spade 1 ∷ []) [] 0 (board_of [] (0 ∷ 0 ∷ 0 ∷ 0 ∷ [])))
 last_deal_is_short-wins = record {
-  moves = Deal ∷ go Waste (Foundation 1) ∷ go Waste (Foundation 2) ∷ go Waste (Foundation 3) ∷ Deal ∷ go Waste (Foundation 0) ∷ [];
+  moves = Deal ∷ go Waste (Foundation 1) ∷ go Waste (Foundation 2) ∷ go Waste (Foundation 3) ∷ Deal ∷ go Waste
+      (Foundation 0) ∷ [];
   end = board_of [] (1 ∷ 1 ∷ 1 ∷ 1 ∷ []);
   short = lit≤ tt;
   line = (refl, (refl, (refl, (refl, (refl, (refl, refl))))));
@@ -106,7 +110,8 @@ pub waste_turned_over-wins : Wins (record (plain 3 0) { stock = 3; redeals = Tim
     (with_stock (club 1 ∷ club 3 ∷ club 2 ∷ []) [] 1 (board_of [] (0 ∷ 3 ∷ 3 ∷ 3 ∷ [])))
 waste_turned_over-wins = record {
   moves =
-      Deal ∷ Deal ∷ Deal ∷ go Waste (Foundation 0) ∷ Redeal ∷ Deal ∷ go Waste (Foundation 0) ∷ Deal ∷ go Waste (Foundation 0) ∷ [];
+      Deal ∷ Deal ∷ Deal ∷ go Waste (Foundation 0) ∷ Redeal ∷ Deal ∷ go Waste (Foundation 0) ∷ Deal ∷ go Waste
+      (Foundation 0) ∷ [];
   end = board_of [] (3 ∷ 3 ∷ 3 ∷ 3 ∷ []);
   short = lit≤ tt;
   line = (refl, (refl, (refl, (refl, (refl, (refl, (refl, (refl, (refl, refl)))))))));
@@ -185,11 +190,13 @@ abbrev with_hole : List Card → Board → Board
 with_hole cards board = record board { hole = cards }
 
 -- where the ranks wrap round, the ace goes on the three
-pub ace_on_the_greatest-wins : Wins (into_the_hole true) 1 (with_hole all_but_an_ace (board_of (up (club 1 ∷ []) ∷ []) []))
+pub ace_on_the_greatest-wins : Wins (into_the_hole true) 1
+    (with_hole all_but_an_ace (board_of (up (club 1 ∷ []) ∷ []) []))
 ace_on_the_greatest-wins = record {
   moves = go (Tableau 0) TheHole ∷ [];
   end = with_hole (
-      club 2 ∷ club 3 ∷ diamond 1 ∷ diamond 2 ∷ diamond 3 ∷ heart 1 ∷ heart 2 ∷ heart 3 ∷ spade 1 ∷ spade 2 ∷ spade 3 ∷ club 1 ∷ []
+      club 2 ∷ club 3 ∷ diamond 1 ∷ diamond 2 ∷ diamond 3 ∷ heart 1 ∷ heart 2 ∷ heart 3 ∷ spade 1 ∷ spade 2
+      ∷ spade 3 ∷ club 1 ∷ []
       ) (board_of (up [] ∷ []) []);
   short = lit≤ tt;
   line = (refl, refl);
@@ -197,16 +204,19 @@ ace_on_the_greatest-wins = record {
 }
 
 -- and where they do not, it does not
-pub no_ace_on_the_greatest-no_win : Winnable (into_the_hole false) (with_hole all_but_an_ace (board_of (up (club 1 ∷ []) ∷ []) [])) → ⊥
+pub no_ace_on_the_greatest-no_win : Winnable (into_the_hole false)
+    (with_hole all_but_an_ace (board_of (up (club 1 ∷ []) ∷ []) [])) → ⊥
 no_ace_on_the_greatest-no_win = listed-no_win _ _ [] (refl, tt) (tt, tt)
 
 -- the stock's card goes into the hole, and the ace goes on it
-pub dealt_into_the_hole-wins : Wins (record (plain 2 1) { spaces = NoFill; goal = Hole true Dealt; stock = 1; target = ToHole }) 2
+pub dealt_into_the_hole-wins : Wins
+    (record (plain 2 1) { spaces = NoFill; goal = Hole true Dealt; stock = 1; target = ToHole }) 2
     (with_stock (club 2 ∷ []) [] 0 (with_hole (spade 2 ∷ diamond 2 ∷ diamond 1 ∷ heart 2 ∷ heart 1 ∷ spade 1 ∷ [])
     (board_of (up (club 1 ∷ []) ∷ []) [])))
 dealt_into_the_hole-wins = record {
   moves = Deal ∷ go (Tableau 0) TheHole ∷ [];
-  end = with_hole (spade 2 ∷ diamond 2 ∷ diamond 1 ∷ heart 2 ∷ heart 1 ∷ spade 1 ∷ club 2 ∷ club 1 ∷ []) (board_of (up [] ∷ []) []);
+  end = with_hole (spade 2 ∷ diamond 2 ∷ diamond 1 ∷ heart 2 ∷ heart 1 ∷ spade 1 ∷ club 2 ∷ club 1 ∷ [])
+      (board_of (up [] ∷ []) []);
   short = lit≤ tt;
   line = (refl, (refl, refl));
   won = refl;
@@ -267,7 +277,8 @@ turned_up_in_turn-wins = record {
 }
 
 -- the ace lies face down under the two, and nothing fills the space
-pub ace_face_down-no_win : Winnable (only_tops_up 2 2) (board_of (partly_up (club 1 ∷ club 2 ∷ []) 1 ∷ up [] ∷ []) (0 ∷ 2 ∷ 2 ∷ 2 ∷ [])) → ⊥
+pub ace_face_down-no_win : Winnable (only_tops_up 2 2)
+    (board_of (partly_up (club 1 ∷ club 2 ∷ []) 1 ∷ up [] ∷ []) (0 ∷ 2 ∷ 2 ∷ 2 ∷ [])) → ⊥
 ace_face_down-no_win = listed-no_win _ _ [] (refl, tt) (tt, tt)
 
 -- The reserve.
@@ -309,7 +320,8 @@ ace_deep_in_reserve-no_win = listed-no_win _ _ [] (refl, tt) (tt, tt)
 -- Taking back.
 
 abbrev back_to_a_space : Bool → RuleParts
-back_to_a_space take_back = record (plain 3 2) { build = RedBlack; spaces = King; goal = Foundations 1 false take_back false }
+back_to_a_space take_back =
+    record (plain 3 2) { build = RedBlack; spaces = King; goal = Foundations 1 false take_back false }
 
 abbrev ace_between : Board
 ace_between = board_of (up (club 3 ∷ club 1 ∷ club 2 ∷ []) ∷ up [] ∷ []) (0 ∷ 3 ∷ 3 ∷ 3 ∷ [])

@@ -1,5 +1,7 @@
 -- What stock moves change, and what they keep.
-use Rattle.std.proofs.Common.{◌≡◌, ◌⊎◌, ◌↔◌, inl, inr, ℕ, ◌-◌, ◌<◌, ◌≤◌, zero, suc, Bool, true, false, ◌||◌, not, List, [], ◌∷◌, ◌++◌, length, map, reverse, take, drop, refl, ap, sym, ◌∙◌, subst, arith, append_assoc, append-nil, IsTrue, nat_lt, Some, None, if◌then◌else◌, take-append-drop}
+use Rattle.std.proofs.Common.{◌≡◌, ◌⊎◌, ◌↔◌, inl, inr, ℕ, ◌-◌, ◌<◌, ◌≤◌, zero, suc, Bool, true, false, ◌||◌, not, List}
+use Rattle.std.proofs.Common.{[], ◌∷◌, ◌++◌, length, map, reverse, take, drop, refl, ap, sym, ◌∙◌, subst, arith}
+use Rattle.std.proofs.Common.{append_assoc, append-nil, IsTrue, nat_lt, Some, None, if◌then◌else◌, take-append-drop}
 use Rattle.std.proofs.lemmas.Bool.{cases_lt}
 use Rattle.std.proofs.lemmas.List.{reverse-append, reverse-reverse}
 use Rattle.card_piles.specs.declared.Card.{Card}
@@ -13,7 +15,8 @@ use Rattle.game_rules.specs.Conflicts.{IsPlayable}
 use Rattle.game_rules.specs.Belonging.{Belongs}
 use Rattle.game_rules.specs.Board.{Board, Pile, top_part, below_top}
 use Rattle.game_rules.specs.Play.{Legal, is_empty, is_legal_redeal, dealt_each, after, after_deal_to}
-use Rattle.game_rules.specs.StockMoves.{is_carry, IsNextByStock, stock_move, after_stock_move, after_stock_moves, HasStockMoves, queue}
+use Rattle.game_rules.specs.StockMoves.{is_carry, IsNextByStock, stock_move, after_stock_move, after_stock_moves}
+use Rattle.game_rules.specs.StockMoves.{HasStockMoves, queue}
 use Rattle.game_rules.proofs.Limits.{both}
 use Rattle.game_rules.proofs.KeepsBelonging.{belongs-after}
 
@@ -29,13 +32,15 @@ with_stock board stock waste redeals_left = record board { stock = stock; waste 
 -- what a deal and a redeal do
 pub record Dealt (rules : RuleParts) (a b : Board) : Type 0 where
   pub some : 0 < length a.stock
-  pub is_after : b ≡ with_stock a (below_top rules.draw a.stock) (a.waste ++ reverse (top_part rules.draw a.stock)) a.redeals_left
+  pub is_after : b ≡ with_stock a (below_top rules.draw a.stock)
+      (a.waste ++ reverse (top_part rules.draw a.stock)) a.redeals_left
 
 pub record Redealt (rules : RuleParts) (a b : Board) : Type 0 where
   pub none : a.stock ≡ []
   pub some : 0 < length a.waste
   pub left : IsTrue (is_unlimited rules.redeals || nat_lt 0 a.redeals_left)
-  pub is_after : b ≡ with_stock a (reverse a.waste) [] (if is_unlimited rules.redeals then a.redeals_left else a.redeals_left - 1)
+  pub is_after : b ≡ with_stock a (reverse a.waste) []
+      (if is_unlimited rules.redeals then a.redeals_left else a.redeals_left - 1)
 
 pub empty_is : {A : Type 0} (xs : List A) → IsTrue (is_empty xs) → xs ≡ []
 empty_is [] h = refl
@@ -46,8 +51,10 @@ some_is [] h = cc
 some_is (x ∷ xs) h = omega arith
 
 pub after_deal : (rules : RuleParts) (a : Board) → IsTrue (deals_to_waste rules.target)
-    → after rules a Deal ≡ with_stock a (below_top rules.draw a.stock) (a.waste ++ reverse (top_part rules.draw a.stock)) a.redeals_left
-after_deal rules a to_waste = ap (λ (target : Target). after_deal_to target rules a) (target-waste rules.target to_waste)
+    → after rules a Deal ≡ with_stock a (below_top rules.draw a.stock)
+    (a.waste ++ reverse (top_part rules.draw a.stock)) a.redeals_left
+after_deal rules a to_waste = ap (λ (target : Target). after_deal_to target rules a)
+    (target-waste rules.target to_waste)
 
 -- a redeal is legal where the stock is empty alone
 pub redeal-empty : (rules : RuleParts) (a : Board) → Legal rules a Redeal → a.stock ≡ []
@@ -67,7 +74,12 @@ next_by rules a b Deal to_waste stock legal is_after =
 next_by rules a b Redeal to_waste stock legal is_after =
     let left = both _ _ legal in
     let some = both _ _ left.0 in
-    inr (record { none = redeal-empty rules a legal; some = some_is a.waste some.1; left = left.1; is_after = is_after })
+    inr (record {
+      none = redeal-empty rules a legal;
+      some = some_is a.waste some.1;
+      left = left.1;
+      is_after = is_after;
+    })
 
 pub next_cases : (rules : RuleParts) (a b : Board) → IsTrue (deals_to_waste rules.target) → IsNextByStock rules a b
     → Dealt rules a b ⊎ Redealt rules a b
@@ -93,7 +105,8 @@ queue-redealt : (rules : RuleParts) (a b : Board) → Redealt rules a b → queu
 queue-redealt rules a b h =
     ap queue h.is_after ∙ append-nil (reverse a.waste) ∙ ap (λ (xs : List Card). xs ++ reverse a.waste) (sym h.none)
 
-queue-next : (rules : RuleParts) (a b : Board) → IsTrue (deals_to_waste rules.target) → IsNextByStock rules a b → queue b ≡ queue a
+queue-next : (rules : RuleParts) (a b : Board) → IsTrue (deals_to_waste rules.target) → IsNextByStock rules a b
+    → queue b ≡ queue a
 queue-next rules a b to_waste h = elim (next_cases rules a b to_waste h) [
   | inl dealt ↦ queue-dealt rules a b dealt
   | inr redealt ↦ queue-redealt rules a b redealt
@@ -116,16 +129,20 @@ one_stock_move rules a Redeal stock legal =
     let redeal : is_legal_redeal rules a ≡ true = legal in
     rw (redeal, empty)
 
-pub deal_legal : (rules : RuleParts) (a : Board) → IsTrue (deals_to_waste rules.target) → IsTrue (not (is_empty a.stock)) → Legal rules a Deal
+pub deal_legal : (rules : RuleParts) (a : Board) → IsTrue (deals_to_waste rules.target)
+    → IsTrue (not (is_empty a.stock)) → Legal rules a Deal
 deal_legal rules a to_waste h = rw (h, target-waste rules.target to_waste)
 
-redeal_or_none : (rules : RuleParts) (a : Board) (b : Bool) → is_legal_redeal rules a ≡ b → ((if b then Some Redeal else None) ≡ None)
+redeal_or_none : (rules : RuleParts) (a : Board) (b : Bool) → is_legal_redeal rules a ≡ b
+    → ((if b then Some Redeal else None) ≡ None)
     ⊎ ((if b then Some Redeal else None) ≡ Some Redeal) × Legal rules a Redeal
 redeal_or_none rules a true e = inr (refl, e)
 redeal_or_none rules a false e = inl refl
 
-some_or_none : (rules : RuleParts) (a : Board) (b : Bool) → not (is_empty a.stock) ≡ b → IsTrue (deals_to_waste rules.target)
-    → (stock_move rules a ≡ None) ⊎ ((move : Move) × (stock_move rules a ≡ Some move) × IsTrue (not (is_carry move)) × Legal rules a move)
+some_or_none : (rules : RuleParts) (a : Board) (b : Bool) → not (is_empty a.stock) ≡ b
+    → IsTrue (deals_to_waste rules.target)
+    → (stock_move rules a ≡ None)
+    ⊎ ((move : Move) × (stock_move rules a ≡ Some move) × IsTrue (not (is_carry move)) × Legal rules a move)
 some_or_none rules a true e to_waste = inr (Deal, rw e, refl, deal_legal rules a to_waste e)
 some_or_none rules a false e to_waste = elim (redeal_or_none rules a (is_legal_redeal rules a) refl) [
   | inl none ↦ inl (rw (e, none))
@@ -139,7 +156,8 @@ pub record HasNext (rules : RuleParts) (a : Board) : Type 0 where
   pub is_after : after_stock_move rules a ≡ after rules a move
   pub is_next : IsNextByStock rules a (after_stock_move rules a)
 
-pub stock_move_cases : (rules : RuleParts) (a : Board) → IsTrue (deals_to_waste rules.target) → (stock_move rules a ≡ None) ⊎ HasNext rules a
+pub stock_move_cases : (rules : RuleParts) (a : Board) → IsTrue (deals_to_waste rules.target)
+    → (stock_move rules a ≡ None) ⊎ HasNext rules a
 stock_move_cases rules a to_waste = elim (some_or_none rules a (not (is_empty a.stock)) refl to_waste) [
   | inl none ↦ inl none
   | inr some ↦
@@ -171,7 +189,8 @@ stock_move-exact rules a move to_waste = (
 after_stock_move-none : (rules : RuleParts) (a : Board) → stock_move rules a ≡ None → after_stock_move rules a ≡ a
 after_stock_move-none rules a none = rw (none, after_stock_move) refl
 
-queue-step : (rules : RuleParts) (a : Board) → IsTrue (deals_to_waste rules.target) → queue (after_stock_move rules a) ≡ queue a
+queue-step : (rules : RuleParts) (a : Board) → IsTrue (deals_to_waste rules.target)
+    → queue (after_stock_move rules a) ≡ queue a
 queue-step rules a to_waste = elim (stock_move_cases rules a to_waste) [
   | inl none ↦ ap queue (after_stock_move-none rules a none)
   | inr some ↦ queue-next rules a (after_stock_move rules a) to_waste some.is_next
@@ -187,8 +206,10 @@ queue-after_stock_moves rules (suc k) board to_waste =
 pub stock-redealt : (rules : RuleParts) (a : Board) → Legal rules a Redeal → (after rules a Redeal).stock ≡ queue a
 stock-redealt rules a legal = ap (λ (xs : List Card). xs ++ reverse a.waste) (sym (redeal-empty rules a legal))
 
-pub stock-after_pass : (rules : RuleParts) (board : Board) (k : ℕ) → IsTrue (deals_to_waste rules.target) → board.waste ≡ []
-    → Legal rules (after_stock_moves rules k board) Redeal → (after rules (after_stock_moves rules k board) Redeal).stock ≡ board.stock
+pub stock-after_pass : (rules : RuleParts) (board : Board) (k : ℕ) → IsTrue (deals_to_waste rules.target)
+    → board.waste ≡ []
+    → Legal rules (after_stock_moves rules k board) Redeal
+    → (after rules (after_stock_moves rules k board) Redeal).stock ≡ board.stock
 stock-after_pass rules board k to_waste none legal =
     stock-redealt rules (after_stock_moves rules k board) legal
     ∙ queue-after_stock_moves rules k board to_waste
@@ -215,12 +236,14 @@ face_down-dealt_each : (cards : List Card) (piles : List Pile)
     → map (λ pile. pile.face_down) (dealt_each cards piles) ≡ map (λ pile. pile.face_down) piles
 face_down-dealt_each [] piles = refl
 face_down-dealt_each (card ∷ cards) [] = refl
-face_down-dealt_each (card ∷ cards) (pile ∷ piles) = ap (λ (ns : List ℕ). pile.face_down ∷ ns) (face_down-dealt_each cards piles)
+face_down-dealt_each (card ∷ cards) (pile ∷ piles) = ap (λ (ns : List ℕ). pile.face_down ∷ ns)
+    (face_down-dealt_each cards piles)
 
 face_down-dealt_to : (target : Target) (rules : RuleParts) (board : Board)
     → map (λ pile. pile.face_down) (after_deal_to target rules board).piles ≡ map (λ pile. pile.face_down) board.piles
 face_down-dealt_to ToWaste rules board = refl
-face_down-dealt_to ToTableau rules board = face_down-dealt_each (reverse (top_part (length board.piles) board.stock)) board.piles
+face_down-dealt_to ToTableau rules board = face_down-dealt_each
+    (reverse (top_part (length board.piles) board.stock)) board.piles
 face_down-dealt_to ToHole rules board = refl
 
 pub face_down-after_deal : (rules : RuleParts) (board : Board)
@@ -237,18 +260,21 @@ next-of_legal rules a move stock legal =
 
 pub has-more : (rules : RuleParts) (k : ℕ) (board : Board) (move : Move) → IsTrue (deals_to_waste rules.target)
     → HasStockMoves rules k board → IsTrue (not (is_carry move)) → Legal rules (after_stock_moves rules k board) move
-    → HasStockMoves rules (suc k) board × (after_stock_moves rules (suc k) board ≡ after rules (after_stock_moves rules k board) move)
+    → HasStockMoves rules (suc k) board
+    × (after_stock_moves rules (suc k) board ≡ after rules (after_stock_moves rules k board) move)
 has-more rules k board move to_waste has stock legal =
     let more = after_stock_moves-suc rules k board in
     let next = next-of_legal rules (after_stock_moves rules k board) move stock legal in
-    let last : IsNextByStock rules (after_stock_moves rules k board) (after_stock_moves rules (suc k) board) = rw more next.0 in (
+    let last : IsNextByStock rules (after_stock_moves rules k board) (after_stock_moves rules (suc k) board) =
+    rw more next.0 in (
       record {
         to_waste = λ some. to_waste;
         each = λ i below. elim (cases_lt i k) [
           | inl before ↦ has.each i before
           | inr here ↦
               let same : k ≡ i = omega (arith, below, here) in
-              subst (λ j. IsNextByStock rules (after_stock_moves rules j board) (after_stock_moves rules (suc j) board)) same last
+              subst (λ j. IsNextByStock rules (after_stock_moves rules j board) (after_stock_moves rules (suc j) board))
+              same last
         ];
       },
       more ∙ next.1,

@@ -1,5 +1,6 @@
 -- Stock moves, one after the other: deals and redeals of a stock that deals to the waste.
-use Rattle.std.specs.Prelude.{◌≡◌, ℕ, zero, suc, ◌<◌, Bool, true, false, not, IsTrue, List, ◌++◌, reverse, Option, Some, None, if◌then◌else◌}
+use Rattle.std.specs.Prelude.{◌≡◌, ℕ, zero, suc, ◌<◌, Bool, true, false, not, IsTrue, List, ◌++◌, reverse, Option, Some}
+use Rattle.std.specs.Prelude.{None, if◌then◌else◌}
 use Rattle.card_piles.specs.declared.Card.{Card}
 use Rattle.game_rules.specs.declared.RuleParts.{RuleParts}
 use Rattle.game_rules.specs.declared.Move.{Move}
@@ -21,7 +22,8 @@ pub record IsNextByStock (rules : RuleParts) (a b : Board) : Type 0 where
   pub legal : Legal rules a move
   pub is_after : b ≡ after rules a move
 
--- the next stock move of a board whose stock deals to the waste: a deal while the stock has a card, else a redeal where it is legal
+-- the next stock move of a board whose stock deals to the waste: a deal while the stock has a card, else a redeal where
+-- it is legal
 abbrev pub stock_move : RuleParts → Board → Option Move
 stock_move rules board =
     if not (is_empty board.stock) then Some Deal
@@ -42,7 +44,8 @@ after_stock_moves rules (suc k) board = after_stock_moves rules k (after_stock_m
 -- so many stock moves can be made from the board; for any of them the stock must deal to the waste
 pub record HasStockMoves (rules : RuleParts) (k : ℕ) (board : Board) : Type 0 where
   pub to_waste : 0 < k → IsTrue (deals_to_waste rules.target)
-  pub each : (i : ℕ) → i < k → IsNextByStock rules (after_stock_moves rules i board) (after_stock_moves rules (suc i) board)
+  pub each : (i : ℕ) → i < k → IsNextByStock rules (after_stock_moves rules i board)
+      (after_stock_moves rules (suc i) board)
 
 -- stock and waste as one queue of cards: the stock from its bottom up, then the waste from its top down
 abbrev pub queue : Board → List Card

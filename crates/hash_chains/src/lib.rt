@@ -7,7 +7,8 @@
 //! Not promised: how many buckets there are.
 #![tactic(auto)]
 
-ghost use Rattle.std.specs.Prelude.{◌≡◌, ◌≢◌, ℕ, ◌+◌, ◌-◌, ◌<◌, ◌≤◌, ◌^◌, List, [], ◌∷◌, ◌++◌, length, slice_index, slice_set, OnOk, OnErr, IfOk};
+ghost use Rattle.std.specs.Prelude.{◌≡◌, ◌≢◌, ℕ, ◌+◌, ◌-◌, ◌<◌, ◌≤◌, ◌^◌, List, [], ◌∷◌, ◌++◌, length, slice_index};
+ghost use Rattle.std.specs.Prelude.{slice_set, OnOk, OnErr, IfOk};
 ghost use Rattle.hash_chains.specs.Index.{indexed, LastBelow, LastWith};
 ghost use Rattle.hash_chains.specs.Chained.{IsIndex, IsIndexBut, hash_of, hashes_of, bucket_of, bucket, head_of};
 
@@ -42,7 +43,8 @@ impl Model for HashChains {
 fn find_from(heads: &Vec<u32>, slots: &Vec<Chain>, start: u32, hash: u32) -> u32
     requires index { IsIndex heads.now.items slots.now.items }
     requires within { start ≤ length slots.now.items }
-    requires here { 0 < start → bucket_of heads.now.items slots.now.items (start - 1) ≡ bucket (length heads.now.items) hash }
+    requires here { 0 < start → bucket_of heads.now.items slots.now.items (start - 1)
+        ≡ bucket (length heads.now.items) hash }
     ensures { LastBelow (hash_of slots.now.items) hash start result }
 {
     let mut node = start;

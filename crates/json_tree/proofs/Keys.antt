@@ -1,5 +1,6 @@
 -- The keys of a map are the keys of the object that it stands for.
-use Rattle.std.proofs.Common.{◌≡◌, ◌&&◌, ◌||◌, List, [], ◌∷◌, ℕ, Bool, map, String, string_bytes, refl, ap, ◌∙◌, sym, Bor}
+use Rattle.std.proofs.Common.{◌≡◌, ◌&&◌, ◌||◌, List, [], ◌∷◌, ℕ, Bool, map, String, string_bytes, refl, ap, ◌∙◌}
+use Rattle.std.proofs.Common.{sym, Bor}
 use Rattle.std.specs.declared.alloc.Global.{Global}
 use Rattle.std.specs.List.{list_any, list_all}
 use Rattle.std.specs.Str.{bytes_eq}
@@ -17,5 +18,6 @@ pub are_known : (keys : List (Bor (List ℕ))) (entries : List (String Global ×
     ≡ members_have_only (map (λ known. known.now) keys) (members_view entries)
 are_known keys [] = refl
 are_known keys (e ∷ es) =
-    ap (λ first. first && list_all (λ key. list_any (λ known. bytes_eq (string_bytes key) known.now) keys) (map (λ e. e.0) es)) (any_known (string_bytes e.0) keys)
+    ap (λ first. first && list_all (λ key. list_any (λ known. bytes_eq (string_bytes key) known.now) keys)
+    (map (λ e. e.0) es)) (any_known (string_bytes e.0) keys)
     ∙ ap (λ rest. list_any (bytes_eq (string_bytes e.0)) (map (λ known. known.now) keys) && rest) (are_known keys es)

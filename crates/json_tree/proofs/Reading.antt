@@ -1,5 +1,6 @@
 -- What `serde_json` read is the tree of the bytes, and one byte more than the limit tells that a file is too long.
-use Rattle.std.proofs.Common.{◌≡◌, List, ℕ, Bool, true, false, cond, Some, None, refl, ap, IsUtf8, ◌<◌, ◌≤◌, length, Err, lt-ltb, le-ltb, ltb-true, ltb-false, take, nat_lt, sym, ◌∙◌, arith, lit<}
+use Rattle.std.proofs.Common.{◌≡◌, List, ℕ, Bool, true, false, cond, Some, None, refl, ap, IsUtf8, ◌<◌, ◌≤◌, length}
+use Rattle.std.proofs.Common.{Err, lt-ltb, le-ltb, ltb-true, ltb-false, take, nat_lt, sym, ◌∙◌, arith, lit<}
 use Rattle.std.proofs.lemmas.List.{take_all, length-take-le}
 use Rattle.std.specs.Str.{is_utf8}
 use Rattle.std.proofs.lemmas.Str.{IsUtf8-from_is_utf8, is_utf8-from_IsUtf8}
@@ -17,14 +18,16 @@ pub tree_of-refused : (bytes : List ℕ) → (IsUtf8 bytes → read bytes ≡ No
 unfolding tree_of
 tree_of-refused bytes h =
     let by_test : (b : Bool) → is_utf8 bytes ≡ b → cond b (read bytes) None ≡ None =
-    λ b. elim b as (λ b. is_utf8 bytes ≡ b → cond b (read bytes) None ≡ None) [ true ↦ λ e. h (IsUtf8-from_is_utf8 bytes e) | false ↦ λ e. refl ] in
+    λ b. elim b as (λ b. is_utf8 bytes ≡ b → cond b (read bytes) None ≡ None)
+    [ true ↦ λ e. h (IsUtf8-from_is_utf8 bytes e) | false ↦ λ e. refl ] in
     by_test (is_utf8 bytes) refl
 
 pub object_of-too_long : (bytes : List ℕ) → max_file_length < length bytes → object_of bytes ≡ Err TooLong
 unfolding object_of
 object_of-too_long bytes long = rw (lt-ltb _ _ long) refl
 
-pub object_of-tree : (bytes : List ℕ) → length bytes ≤ max_file_length → (tree : Option Data) → tree_of bytes ≡ tree → object_of bytes ≡ or_no_object tree
+pub object_of-tree : (bytes : List ℕ) → length bytes ≤ max_file_length → (tree : Option Data) → tree_of bytes ≡ tree
+    → object_of bytes ≡ or_no_object tree
 unfolding object_of
 object_of-tree bytes short tree h = rw (le-ltb _ _ short) (ap or_no_object h)
 
@@ -34,7 +37,8 @@ object_of-take bytes =
     let by_test : (b : Bool) → nat_lt 65537 (length bytes) ≡ b → object_of (take 65537 bytes) ≡ object_of bytes =
     λ b. elim b as (λ b. nat_lt 65537 (length bytes) ≡ b → object_of (take 65537 bytes) ≡ object_of bytes) [
       | true ↦ λ e. let long = ltb-true _ _ e in
-          let front : max_file_length < length (take 65537 bytes) = rw (length-take-le 65537 bytes (omega arith)) (lit< tt) in
+          let front : max_file_length < length (take 65537 bytes) = rw
+          (length-take-le 65537 bytes (omega arith)) (lit< tt) in
           object_of-too_long (take 65537 bytes) front ∙ sym (object_of-too_long bytes (omega arith))
       | false ↦ λ e. ap object_of (take_all 65537 bytes (ltb-false _ _ e))
     ] in

@@ -29,7 +29,8 @@ pub fn has_only_keys(value: &Value, keys: &[&str]) -> bool
 }
 
 fn are_known(members: &Map<String, Value>, keys: &[&str]) -> bool
-    ensures { result ≡ list_all (λ key. list_any (λ known. bytes_eq (string_bytes key) known.now) keys.now) (keys_of members.now) }
+    ensures { result ≡ list_all (λ key. list_any (λ known. bytes_eq (string_bytes key) known.now) keys.now)
+        (keys_of members.now) }
 {
     members.keys().all(|key| is_known(key.as_str(), keys))
 }

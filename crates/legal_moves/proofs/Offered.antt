@@ -1,6 +1,9 @@
 -- What the places of a board offer, and the moves that are listed of it.
-use Rattle.std.proofs.Common.{◌≡◌, ℕ, ◌+◌, ◌-◌, ◌<◌, ◌≤◌, zero, suc, Bool, true, false, ◌&&◌, List, [], ◌∷◌, ◌++◌, map, length, take, refl, ap, sym, ◌∙◌, arith, length-append, length-drop, drop, get_or, append-nil, true≢false}
-use Rattle.std.specs.Prelude.{Option, Some, None, is_some, not, ◌||◌, ◌==◌, cond, min, nat_lt, nat_le, slice_get, if◌then◌else◌}
+use Rattle.std.proofs.Common.{◌≡◌, ℕ, ◌+◌, ◌-◌, ◌<◌, ◌≤◌, zero, suc, Bool, true, false, ◌&&◌, List, [], ◌∷◌, ◌++◌, map}
+use Rattle.std.proofs.Common.{length, take, refl, ap, sym, ◌∙◌, arith, length-append, length-drop, drop, get_or}
+use Rattle.std.proofs.Common.{append-nil, true≢false}
+use Rattle.std.specs.Prelude.{Option, Some, None, is_some, not, ◌||◌, ◌==◌, cond, min, nat_lt, nat_le}
+use Rattle.std.specs.Prelude.{slice_get, if◌then◌else◌}
 use Rattle.std.specs.Option.{option_to_list}
 use Rattle.std.specs.List.{All, filter, flat_map, range_with_len}
 use Rattle.std.specs.Int.{bit_at}
@@ -36,7 +39,8 @@ use Rattle.legal_moves.specs.Offers.{IsGiven, carry_of, legal_of, first_taken, S
 use Rattle.legal_moves.proofs.Runs.{Reached, Stops, gives-reached}
 
 -- a list that begins with all of a longer list
-pub StartsWith-append : {A : Type 0} (old more mid xs : List A) → mid ≡ old ++ more → StartsWith xs mid → StartsWith xs old
+pub StartsWith-append : {A : Type 0} (old more mid xs : List A) → mid ≡ old ++ more → StartsWith xs mid
+    → StartsWith xs old
 StartsWith-append old more mid xs e starts =
     let less : length old ≤ length mid = rw (e, length-append old more) (omega arith) in
     sym (take-take (length old) (length mid) xs less)
@@ -57,9 +61,11 @@ legal_up_to rules board to from n =
     filter (is_legal_move rules board) (map (λ count. Carry from to count) (range_with_len 1 n))
 
 pub legal_up_to-more : (rules : RuleParts) (board : Board) (to from : Place) (n : ℕ)
-    → legal_up_to rules board to from (n + 1) ≡ legal_up_to rules board to from n ++ filter (is_legal_move rules board) (Carry from to (n + 1) ∷ [])
+    → legal_up_to rules board to from (n + 1) ≡ legal_up_to rules board to from n ++ filter (is_legal_move rules board)
+    (Carry from to (n + 1) ∷ [])
 legal_up_to-more rules board to from n =
-    filter_of_map_range_with_len_more (is_legal_move rules board) (λ count. Carry from to count) 1 n (n + 1) (omega arith)
+    filter_of_map_range_with_len_more (is_legal_move rules board) (λ count. Carry from to count) 1 n
+    (n + 1) (omega arith)
 
 pub not_given : (has other different can puts : Bool) → can ≡ false → (has && other && different && can && puts) ≡ false
 not_given has other different can puts e = rw (e, and-false (has && other && different)) refl
@@ -69,7 +75,8 @@ pub nothing_moved : (rules : RuleParts) (board : Board) (to from : Place) (n : �
     → filter (is_legal_move rules board) (Carry from to n ∷ []) ≡ []
 nothing_moved rules board to from n none =
     rw
-    (not_given (has_place rules board from) (has_place rules board to) (not (same_place from to)) (can_take rules board from n)
+    (not_given (has_place rules board from) (has_place rules board to) (not (same_place from to))
+    (can_take rules board from n)
     (can_put rules board to (taken rules board from n)) none)
     refl
 
@@ -85,21 +92,27 @@ up_to-stops rules board to i n (suc d) stops =
     ∙ append-nil (legal_up_to rules board to (Tableau i) (n + d))
     ∙ up_to-stops rules board to i n d stops
 
-most-groups : (groups : Bool) (size down n : ℕ) → n ≤ cond groups (size - down) (min (size - down) 1) → n ≤ cond groups size 1
+most-groups : (groups : Bool) (size down n : ℕ) → n ≤ cond groups (size - down) (min (size - down) 1)
+    → n ≤ cond groups size 1
 most-groups true size down n few = omega (arith, few)
 most-groups false size down n few = omega (arith, few)
 
 -- all that a pile gives
 pub between-pile : (rules : RuleParts) (board : Board) (to : Place) (i n : ℕ) → Stops rules (pile_at board i) n
-    → n ≤ most_given rules (pile_at board i) → legal_between rules board to (Tableau i) ≡ legal_up_to rules board to (Tableau i) n
+    → n ≤ most_given rules (pile_at board i)
+    → legal_between rules board to (Tableau i) ≡ legal_up_to rules board to (Tableau i) n
 between-pile rules board to i n stops few =
     let pile : Pile = pile_at board i in
-    let less : n ≤ most_taken rules board (Tableau i) = most-groups (moves_groups rules.groups) (length pile.cards) pile.face_down n few in
-    let place : most_taken rules board (Tableau i) ≡ n + (most_taken rules board (Tableau i) - n) = omega (arith, less) in
-    ap (legal_up_to rules board to (Tableau i)) place ∙ up_to-stops rules board to i n (most_taken rules board (Tableau i) - n) stops
+    let less : n ≤ most_taken rules board (Tableau i) = most-groups (moves_groups rules.groups)
+    (length pile.cards) pile.face_down n few in
+    let place : most_taken rules board (Tableau i) ≡ n + (most_taken rules board (Tableau i) - n) =
+    omega (arith, less) in
+    ap (legal_up_to rules board to (Tableau i)) place
+    ∙ up_to-stops rules board to i n (most_taken rules board (Tableau i) - n) stops
 
 pub given-pile : (rules : RuleParts) (board : Board) (i : ℕ) (left : List Card) (card : Card) (n : ℕ) (bit : CardBit)
-    → i < length board.piles → Reached rules (pile_at board i).cards left card n → n ≤ most_given rules (pile_at board i) → IsRank card.rank
+    → i < length board.piles → Reached rules (pile_at board i).cards left card n
+    → n ≤ most_given rules (pile_at board i) → IsRank card.rank
     → bit.place ≡ bit_of card.suit card.rank
     → IsGiven rules board (record { from = Tableau i; count = n; bit = bit })
 given-pile rules board i left card n bit here reached few ranked is = record {
@@ -134,14 +147,17 @@ between-single rules board to (Foundation f) e = refl
 between-single rules board to Hole e = refl
 between-single rules board to (Slot i) e = refl
 
-pub between-none : (rules : RuleParts) (board : Board) (to from : Place) → takes_groups from ≡ false → single_at rules board from ≡ None
+pub between-none : (rules : RuleParts) (board : Board) (to from : Place) → takes_groups from ≡ false
+    → single_at rules board from ≡ None
     → legal_between rules board to from ≡ []
 between-none rules board to from e none =
     between-single rules board to from e
     ∙ nothing_moved rules board to from 1 (can_take-single rules board from e ∙ ap (λ card. is_some card) none)
 
-pub given-single : (rules : RuleParts) (board : Board) (from : Place) (card : Card) (bit : CardBit) → has_place rules board from ≡ true
-    → takes_groups from ≡ false → single_at rules board from ≡ Some card → IsRank card.rank → bit.place ≡ bit_of card.suit card.rank
+pub given-single : (rules : RuleParts) (board : Board) (from : Place) (card : Card) (bit : CardBit)
+    → has_place rules board from ≡ true
+    → takes_groups from ≡ false → single_at rules board from ≡ Some card → IsRank card.rank
+    → bit.place ≡ bit_of card.suit card.rank
     → IsGiven rules board (record { from = from; count = 1; bit = bit })
 given-single rules board from card bit here e some ranked is = record {
   card = card;
@@ -155,7 +171,8 @@ given-single rules board from card bit here e some ranked is = record {
 }
 
 -- what is offered may go to a place where it can be put there, and does not lie there
-pub legal-given : (rules : RuleParts) (board : Board) (offer : Offer) (to : Place) → IsGiven rules board offer → has_place rules board to ≡ true
+pub legal-given : (rules : RuleParts) (board : Board) (offer : Offer) (to : Place) → IsGiven rules board offer
+    → has_place rules board to ≡ true
     → is_legal_move rules board (carry_of to offer)
     ≡ (not (same_place offer.from to) && can_put rules board to (taken rules board offer.from offer.count))
 legal-given rules board offer to given here =
@@ -165,8 +182,10 @@ one_card : (rest n : ℕ) → rest + 1 ≡ n → (rest == 0) ≡ (n == 1)
 one_card rest n e = grind (arith, nat_tests)
 
 -- what a set says of it
-pub fits-given : (rules : RuleParts) (board : Board) (offer : Offer) (to : Place) (set : CardSet) → IsGiven rules board offer → Fits rules board to set
-    → can_put rules board to (taken rules board offer.from offer.count) ≡ ((takes_groups to || (offer.count == 1)) && has_bit set offer.bit)
+pub fits-given : (rules : RuleParts) (board : Board) (offer : Offer) (to : Place) (set : CardSet)
+    → IsGiven rules board offer → Fits rules board to set
+    → can_put rules board to (taken rules board offer.from offer.count)
+    ≡ ((takes_groups to || (offer.count == 1)) && has_bit set offer.bit)
 fits-given rules board offer to set given fits =
     ap (can_put rules board to) given.cards
     ∙ fits given.card given.rest given.ranked
@@ -194,7 +213,8 @@ some_listed : {A : Type 0} (o : Option A) → is_some o ≡ true → length (opt
 some_listed None e = absurd (true≢false (sym e))
 some_listed (Some x) e = refl
 
-single-size : (single : Option Card) (count : ℕ) → ((count == 1) && is_some single) ≡ true → (length (option_to_list single) ≡ count) × (1 ≤ count)
+single-size : (single : Option Card) (count : ℕ) → ((count == 1) && is_some single) ≡ true
+    → (length (option_to_list single) ≡ count) × (1 ≤ count)
 single-size single count e =
     let parts = both (count == 1) (is_some single) e in
     let one = eqb-true count 1 parts.0 in
@@ -218,14 +238,16 @@ taken-size rules board (Foundation f) count e = single-size (single_at rules boa
 taken-size rules board Hole count e = single-size (single_at rules board Hole) count e
 taken-size rules board (Slot i) count e = single-size (single_at rules board (Slot i)) count e
 
-pub given-taken : (rules : RuleParts) (board : Board) (from : Place) (count : ℕ) (card : Card) (bit : CardBit) → has_place rules board from ≡ true
+pub given-taken : (rules : RuleParts) (board : Board) (from : Place) (count : ℕ) (card : Card) (bit : CardBit)
+    → has_place rules board from ≡ true
     → first_taken rules board from count ≡ Some card → IsRank card.rank → bit.place ≡ bit_of card.suit card.rank
     → IsGiven rules board (record { from = from; count = count; bit = bit })
 given-taken rules board from count card bit here e ranked is =
     let parts = if_some (can_take rules board from count) (slice_get (taken rules board from count) 0) card e in
     let cards = head_of (taken rules board from count) card parts.1 in
     let size = taken-size rules board from count parts.0 in
-    let long : length (taken rules board from count) ≡ length (card ∷ drop 1 (taken rules board from count)) = ap (λ (xs : List Card). length xs) cards in
+    let long : length (taken rules board from count) ≡ length (card ∷ drop 1 (taken rules board from count)) =
+    ap (λ (xs : List Card). length xs) cards in
     record {
       here = here;
       can = parts.0;
@@ -237,11 +259,13 @@ given-taken rules board from count card bit here e ranked is =
       ranked = ranked;
     }
 
-pub not-taken : (rules : RuleParts) (board : Board) (from : Place) (count : ℕ) → first_taken rules board from count ≡ None
+pub not-taken : (rules : RuleParts) (board : Board) (from : Place) (count : ℕ)
+    → first_taken rules board from count ≡ None
     → can_take rules board from count ≡ false
 not-taken rules board from count e =
     false_from_ne_true _ (λ yes.
-    let none = no_head (taken rules board from count) (if_none (can_take rules board from count) (slice_get (taken rules board from count) 0) e yes) in
+    let none = no_head (taken rules board from count)
+    (if_none (can_take rules board from count) (slice_get (taken rules board from count) 0) e yes) in
     let size = taken-size rules board from count yes in
     absurd (omega (arith, none, size.0, size.1)))
 
@@ -252,7 +276,8 @@ and-swap false true = refl
 and-swap false false = refl
 
 -- what is offered may go to a place where the place's set has its first card
-pub legal-fitted : (rules : RuleParts) (board : Board) (offer : Offer) (to : Place) (set : CardSet) → IsGiven rules board offer
+pub legal-fitted : (rules : RuleParts) (board : Board) (offer : Offer) (to : Place) (set : CardSet)
+    → IsGiven rules board offer
     → has_place rules board to ≡ true → Fits rules board to set
     → is_legal_move rules board (carry_of to offer)
     ≡ (((takes_groups to || (offer.count == 1)) && has_bit set offer.bit) && not (same_place offer.from to))
@@ -261,20 +286,26 @@ legal-fitted rules board offer to set given here fits =
     ∙ ap (λ b. not (same_place offer.from to) && b) (fits-given rules board offer to set given fits)
     ∙ and-swap (not (same_place offer.from to)) ((takes_groups to || (offer.count == 1)) && has_bit set offer.bit)
 
-legal_of-more : (rules : RuleParts) (board : Board) (offers : List Offer) (i : ℕ) (d : Offer) (to : Place) → i < length offers
+legal_of-more : (rules : RuleParts) (board : Board) (offers : List Offer) (i : ℕ) (d : Offer) (to : Place)
+    → i < length offers
     → legal_of rules board (take (i + 1) offers) to
-    ≡ legal_of rules board (take i offers) to ++ filter (is_legal_move rules board) (carry_of to (get_or offers i d) ∷ [])
+    ≡ legal_of rules board (take i offers) to ++ filter (is_legal_move rules board)
+    (carry_of to (get_or offers i d) ∷ [])
 legal_of-more rules board offers i d to low =
-    ap (λ xs. legal_of rules board xs to) (take_more offers i d low) ∙ legal_of-push rules board (take i offers) (get_or offers i d) to
+    ap (λ xs. legal_of rules board xs to) (take_more offers i d low) ∙ legal_of-push rules board (take i offers)
+    (get_or offers i d) to
 
-pub legal_of-more_legal : (rules : RuleParts) (board : Board) (offers : List Offer) (i : ℕ) (d : Offer) (to : Place) → i < length offers
+pub legal_of-more_legal : (rules : RuleParts) (board : Board) (offers : List Offer) (i : ℕ) (d : Offer) (to : Place)
+    → i < length offers
     → is_legal_move rules board (carry_of to (get_or offers i d)) ≡ true
-    → legal_of rules board (take (i + 1) offers) to ≡ legal_of rules board (take i offers) to ++ carry_of to (get_or offers i d) ∷ []
+    → legal_of rules board (take (i + 1) offers) to ≡ legal_of rules board (take i offers) to
+    ++ carry_of to (get_or offers i d) ∷ []
 legal_of-more_legal rules board offers i d to low legal =
     legal_of-more rules board offers i d to low
     ∙ ap (λ b. legal_of rules board (take i offers) to ++ cond b (carry_of to (get_or offers i d) ∷ []) []) legal
 
-pub legal_of-more_not : (rules : RuleParts) (board : Board) (offers : List Offer) (i : ℕ) (d : Offer) (to : Place) → i < length offers
+pub legal_of-more_not : (rules : RuleParts) (board : Board) (offers : List Offer) (i : ℕ) (d : Offer) (to : Place)
+    → i < length offers
     → is_legal_move rules board (carry_of to (get_or offers i d)) ≡ false
     → legal_of rules board (take (i + 1) offers) to ≡ legal_of rules board (take i offers) to
 legal_of-more_not rules board offers i d to low none =
@@ -284,12 +315,14 @@ legal_of-more_not rules board offers i d to low none =
 
 -- a place whose set has none of the first cards takes nothing that is offered
 pub legal_of-none : (rules : RuleParts) (board : Board) (offers : List Offer) (to : Place) (set free : CardSet)
-    → All (IsGiven rules board) offers → All (λ offer. has_bit free offer.bit ≡ true) offers → has_place rules board to ≡ true → Fits rules board to set
+    → All (IsGiven rules board) offers → All (λ offer. has_bit free offer.bit ≡ true) offers
+    → has_place rules board to ≡ true → Fits rules board to set
     → ((bit : CardBit) → has_bit free bit ≡ true → has_bit set bit ≡ false)
     → legal_of rules board offers to ≡ []
 legal_of-none rules board [] to set free given in_free here fits apart = refl
 legal_of-none rules board (offer ∷ offers) to set free given in_free here fits apart =
-    let out : has_bit set offer.bit ≡ false = apart offer.bit (All-head (λ (o : Offer). has_bit free o.bit ≡ true) offer offers in_free) in
+    let out : has_bit set offer.bit ≡ false = apart offer.bit
+    (All-head (λ (o : Offer). has_bit free o.bit ≡ true) offer offers in_free) in
     let none : is_legal_move rules board (carry_of to offer) ≡ false =
     legal-fitted rules board offer to set (All-head (IsGiven rules board) offer offers given) here fits
     ∙ rw (out, and-false (takes_groups to || (offer.count == 1))) refl in
@@ -298,22 +331,26 @@ legal_of-none rules board (offer ∷ offers) to set free given in_free here fits
 
 -- if no pile takes a card, nothing may go on one
 put-closed : (rules : RuleParts) (board : Board) (i : ℕ) (cards : List Card)
-    → ((top : Option Card) (card : Card) → goes_on_pile rules top card ≡ false) → can_put rules board (Tableau i) cards ≡ false
+    → ((top : Option Card) (card : Card) → goes_on_pile rules top card ≡ false)
+    → can_put rules board (Tableau i) cards ≡ false
 put-closed rules board i [] closed = refl
 put-closed rules board i (card ∷ cards) closed = closed (top_of (pile_at board i).cards) card
 
 pub legal_of-closed : (rules : RuleParts) (board : Board) (offers : List Offer)
-    → ((top : Option Card) (card : Card) → goes_on_pile rules top card ≡ false) → (i : ℕ) → legal_of rules board offers (Tableau i) ≡ []
+    → ((top : Option Card) (card : Card) → goes_on_pile rules top card ≡ false) → (i : ℕ)
+    → legal_of rules board offers (Tableau i) ≡ []
 legal_of-closed rules board [] closed i = refl
 legal_of-closed rules board (offer ∷ offers) closed i =
     let to : Place = Tableau i in
     rw (
       put-closed rules board i (taken rules board offer.from offer.count) closed,
-      and-false (has_place rules board offer.from && has_place rules board to && not (same_place offer.from to) && can_take rules board offer.from offer.count),
+      and-false (has_place rules board offer.from && has_place rules board to && not (same_place offer.from to)
+          && can_take rules board offer.from offer.count),
     )
     (legal_of-closed rules board offers closed i)
 
-pub flat_map-none : {A : Type 0} (f : A → List Move) (kind : ℕ → A) (ns : List ℕ) → ((n : ℕ) → f (kind n) ≡ []) → flat_map f (map kind ns) ≡ []
+pub flat_map-none : {A : Type 0} (f : A → List Move) (kind : ℕ → A) (ns : List ℕ) → ((n : ℕ) → f (kind n) ≡ [])
+    → flat_map f (map kind ns) ≡ []
 flat_map-none f kind [] none = refl
 flat_map-none f kind (n ∷ ns) none = rw (none n) (flat_map-none f kind ns none)
 

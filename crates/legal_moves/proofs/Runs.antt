@@ -1,5 +1,7 @@
 -- Runs of the last cards of a pile, followed from its top.
-use Rattle.std.proofs.Common.{◌≡◌, ℕ, ◌+◌, ◌-◌, ◌<◌, ◌≤◌, zero, suc, Bool, true, false, ◌&&◌, List, [], ◌∷◌, length, get_or, take, drop, refl, ap, sym, ◌∙◌, arith, inl, inr, length-take-le, drop-cons, true≢false}
+use Rattle.std.proofs.Common.{◌≡◌, ℕ, ◌+◌, ◌-◌, ◌<◌, ◌≤◌, zero, suc, Bool, true, false, ◌&&◌, List, [], ◌∷◌, length}
+use Rattle.std.proofs.Common.{get_or, take, drop, refl, ap, sym, ◌∙◌, arith, inl, inr, length-take-le}
+use Rattle.std.proofs.Common.{drop-cons, true≢false}
 use Rattle.std.specs.Prelude.{Option, Some, None, slice_get, min, ◌||◌, ◌==◌, nat_lt, nat_le, if◌then◌else◌}
 use Rattle.std.proofs.lemmas.Bool.{false_from_ne_true}
 use Rattle.game_rules.proofs.Limits.{both}
@@ -31,7 +33,8 @@ drop_from xs i x e =
     drop-cons xs i x (slice_get_within xs i x e) ∙ ap (λ y. y ∷ drop (suc i) xs) (get_or_from_slice_get xs i x x e)
 
 -- the last cards and the one under them
-pub top_part-more : {A : Type 0} (cards : List A) (n : ℕ) (card : A) → n ≤ length cards → top_of (below_top n cards) ≡ Some card
+pub top_part-more : {A : Type 0} (cards : List A) (n : ℕ) (card : A) → n ≤ length cards
+    → top_of (below_top n cards) ≡ Some card
     → (n < length cards) × (top_part (n + 1) cards ≡ card ∷ top_part n cards)
 top_part-more cards n card few e =
     let m = length cards - n in
@@ -48,7 +51,8 @@ top_part-more cards n card few e =
     )
 
 -- what lies under the last cards and the one under them
-pub below_top-more : {A : Type 0} (cards : List A) (n : ℕ) → n ≤ length cards → below_top 1 (below_top n cards) ≡ below_top (n + 1) cards
+pub below_top-more : {A : Type 0} (cards : List A) (n : ℕ) → n ≤ length cards
+    → below_top 1 (below_top n cards) ≡ below_top (n + 1) cards
 below_top-more cards n few =
     let m = length cards - n in
     let long : length (take m cards) ≡ m = length-take-le m cards (omega arith) in
@@ -72,7 +76,8 @@ pub record Reached (rules : RuleParts) (cards left : List Card) (card : Card) (n
   pub first : top_part n cards ≡ card ∷ rest
   pub size : length rest + 1 ≡ n
 
-pub reached-first : (rules : RuleParts) (cards left : List Card) (card : Card) → top_of cards ≡ Some card → left ≡ below_top 1 cards
+pub reached-first : (rules : RuleParts) (cards left : List Card) (card : Card) → top_of cards ≡ Some card
+    → left ≡ below_top 1 cards
     → Reached rules cards left card 1
 reached-first rules cards left card e below =
     let more = top_part-more cards 0 card (omega arith) (ap top_of (below_top-none cards) ∙ e) in
@@ -99,10 +104,14 @@ built_on-some : (rules : RuleParts) (upper lower : Card) (top : Option Card) →
     → (top ≡ Some lower) × (builds_on rules.group_build rules.wrap rules.max_rank upper lower ≡ true)
 built_on-some rules upper lower None e = absurd cc
 built_on-some rules upper lower (Some card) e =
-    let parts = if_some (builds_on rules.group_build rules.wrap rules.max_rank upper card) card lower e in
-    (ap (λ (c : Card). Some c) parts.0, ap (λ c. builds_on rules.group_build rules.wrap rules.max_rank upper c) (sym parts.0) ∙ parts.1)
+    let parts = if_some (builds_on rules.group_build rules.wrap rules.max_rank upper card) card lower e in (
+      ap (λ (c : Card). Some c) parts.0,
+      ap (λ c. builds_on rules.group_build rules.wrap rules.max_rank upper c)
+          (sym parts.0) ∙ parts.1,
+    )
 
-pub reached-more : (rules : RuleParts) (cards left left' : List Card) (card lower : Card) (n : ℕ) → Reached rules cards left card n
+pub reached-more : (rules : RuleParts) (cards left left' : List Card) (card lower : Card) (n : ℕ)
+    → Reached rules cards left card n
     → next_down rules left card ≡ Some lower → left' ≡ below_top 1 left → Reached rules cards left' lower (n + 1)
 reached-more rules cards left left' card lower n reached e below =
     let parts = built_on-some rules card lower (top_of left) e in
@@ -120,17 +129,20 @@ reached-more rules cards left left' card lower n reached e below =
     }
 
 -- a part of a run is a run
-is_run-tail : (rules : RuleParts) (card : Card) (cards : List Card) → is_run rules (card ∷ cards) ≡ true → is_run rules cards ≡ true
+is_run-tail : (rules : RuleParts) (card : Card) (cards : List Card) → is_run rules (card ∷ cards) ≡ true
+    → is_run rules cards ≡ true
 is_run-tail rules card [] e = refl
 is_run-tail rules card (upper ∷ cards) e =
     (both (builds_on rules.group_build rules.wrap rules.max_rank upper card) (is_run rules (upper ∷ cards)) e).1
 
-is_run-drop : (rules : RuleParts) (cards : List Card) (k : ℕ) → is_run rules cards ≡ true → is_run rules (drop k cards) ≡ true
+is_run-drop : (rules : RuleParts) (cards : List Card) (k : ℕ) → is_run rules cards ≡ true
+    → is_run rules (drop k cards) ≡ true
 is_run-drop rules cards zero e = e
 is_run-drop rules [] (suc k) e = e
 is_run-drop rules (card ∷ cards) (suc k) e = is_run-drop rules cards k (is_run-tail rules card cards e)
 
-top_part-shorter : (cards : List Card) (n m : ℕ) → n ≤ m → m ≤ length cards → top_part n cards ≡ drop (m - n) (top_part m cards)
+top_part-shorter : (cards : List Card) (n m : ℕ) → n ≤ m → m ≤ length cards
+    → top_part n cards ≡ drop (m - n) (top_part m cards)
 top_part-shorter cards n m less few =
     let place : length cards - n ≡ length cards - m + (m - n) = omega (arith, less, few) in
     ap (λ j. drop j cards) place ∙ sym (drop-drop (m - n) (length cards - m) cards)
@@ -142,7 +154,8 @@ no_longer_run rules cards left card n m reached none more few =
     let below : List Card = below_top n cards in
     let long : length below ≡ length cards - n = length-take-le (length cards - n) cards (omega arith) in
     let lower : Card = get_or below (length below - 1) card in
-    let top : top_of below ≡ Some lower = slice_get-get_or below (length below - 1) card (omega (arith, long, more, few)) in
+    let top : top_of below ≡ Some lower = slice_get-get_or below (length below - 1) card
+    (omega (arith, long, more, few)) in
     let refused : built_on rules card (Some lower) ≡ None =
     ap (built_on rules card) (sym top) ∙ ap (λ xs. next_down rules xs card) (sym reached.under) ∙ none in
     let broken : builds_on rules.group_build rules.wrap rules.max_rank card lower ≡ false =
@@ -150,7 +163,8 @@ no_longer_run rules cards left card n m reached none more few =
     let longer = top_part-more cards n lower reached.few top in
     let all : top_part (n + 1) cards ≡ lower ∷ card ∷ reached.rest = longer.1 ∙ ap (λ xs. lower ∷ xs) reached.first in
     let stops : is_run rules (top_part (n + 1) cards) ≡ false = ap (is_run rules) all ∙ rw broken refl in
-    let part : top_part (n + 1) cards ≡ drop (m - (n + 1)) (top_part m cards) = top_part-shorter cards (n + 1) m (omega (arith, more)) few in
+    let part : top_part (n + 1) cards ≡ drop (m - (n + 1)) (top_part m cards) = top_part-shorter cards (n + 1) m
+    (omega (arith, more)) few in
     false_from_ne_true _ (λ run.
     true≢false (sym (is_run-drop rules (top_part m cards) (m - (n + 1)) run) ∙ ap (is_run rules) (sym part) ∙ stops))
 
@@ -176,7 +190,8 @@ most-le : (groups : Bool) (size down : ℕ) → most groups size down ≤ size
 most-le true size down = omega arith
 most-le false size down = omega arith
 
-pub gives-reached : (rules : RuleParts) (pile : Pile) (left : List Card) (card : Card) (n : ℕ) → Reached rules pile.cards left card n
+pub gives-reached : (rules : RuleParts) (pile : Pile) (left : List Card) (card : Card) (n : ℕ)
+    → Reached rules pile.cards left card n
     → n ≤ most_given rules pile → pile_gives rules pile n ≡ true
 gives-reached rules pile left card n reached few =
     rw (enough (moves_groups rules.groups) (length pile.cards) pile.face_down n reached.some few) reached.run
@@ -189,39 +204,46 @@ pub stops-at_most : (rules : RuleParts) (pile : Pile) (n : ℕ) → most_given r
 stops-at_most rules pile n few m more =
     rw (not_enough (moves_groups rules.groups) (length pile.cards) pile.face_down m (omega (arith, few, more))) refl
 
-pub stops-at_break : (rules : RuleParts) (pile : Pile) (left : List Card) (card : Card) (n : ℕ) → Reached rules pile.cards left card n
+pub stops-at_break : (rules : RuleParts) (pile : Pile) (left : List Card) (card : Card) (n : ℕ)
+    → Reached rules pile.cards left card n
     → next_down rules left card ≡ None → Stops rules pile n
 stops-at_break rules pile left card n reached none m more =
     let first = is_enough (moves_groups rules.groups) (length pile.cards) pile.face_down m in
     elim (leb_tells m (length pile.cards)) [
       | inl within ↦ rw (no_longer_run rules pile.cards left card n m reached none more within.1) (and-false first)
-      | inr past ↦ rw (past_size (moves_groups rules.groups) (length pile.cards) pile.face_down m (omega (arith, past.1))) refl
+      | inr past ↦ rw
+          (past_size (moves_groups rules.groups) (length pile.cards) pile.face_down m (omega (arith, past.1))) refl
     ]
 
 pub most_given-le : (rules : RuleParts) (pile : Pile) → most_given rules pile ≤ length pile.cards
 most_given-le rules pile = most-le (moves_groups rules.groups) (length pile.cards) pile.face_down
 
 -- cards that fall to the ace, followed from the top
-pub falls-more : (f : ℕ) (cards : List Card) (n : ℕ) (card : Card) → n ≤ length cards → top_of (below_top n cards) ≡ Some card
+pub falls-more : (f : ℕ) (cards : List Card) (n : ℕ) (card : Card) → n ≤ length cards
+    → top_of (below_top n cards) ≡ Some card
     → falls_in_suit f (n + 1) (top_part (n + 1) cards)
     ≡ ((place_of card.suit == foundation_suit f) && (card.rank == n + 1) && falls_in_suit f n (top_part n cards))
 falls-more f cards n card few e =
     let less : n + 1 - 1 ≡ n = omega arith in
     ap (falls_in_suit f (n + 1)) (top_part-more cards n card few e).1
-    ∙ ap (λ r. (place_of card.suit == foundation_suit f) && (card.rank == n + 1) && falls_in_suit f r (top_part n cards)) less
+    ∙ ap (λ r.
+    (place_of card.suit == foundation_suit f) && (card.rank == n + 1) && falls_in_suit f r (top_part n cards)) less
 
-falls-drop : (f rank : ℕ) (cards : List Card) (k : ℕ) → falls_in_suit f rank cards ≡ true → falls_in_suit f (rank - k) (drop k cards) ≡ true
+falls-drop : (f rank : ℕ) (cards : List Card) (k : ℕ) → falls_in_suit f rank cards ≡ true
+    → falls_in_suit f (rank - k) (drop k cards) ≡ true
 falls-drop f rank cards zero e =
     let same : rank - 0 ≡ rank = omega arith in
     ap (λ r. falls_in_suit f r cards) same ∙ e
 falls-drop f rank [] (suc k) e = refl
 falls-drop f rank (card ∷ cards) (suc k) e =
     let same : rank - suc k ≡ rank - 1 - k = omega arith in
-    let rest = both ((place_of card.suit == foundation_suit f) && (card.rank == rank)) (falls_in_suit f (rank - 1) cards) e in
+    let rest = both ((place_of card.suit == foundation_suit f) && (card.rank == rank))
+    (falls_in_suit f (rank - 1) cards) e in
     ap (λ r. falls_in_suit f r (drop k cards)) same ∙ falls-drop f (rank - 1) cards k rest.1
 
 -- where fewer cards do not fall so, more do not
-pub falls-broken : (f : ℕ) (cards : List Card) (n m : ℕ) → n ≤ m → m ≤ length cards → falls_in_suit f n (top_part n cards) ≡ false
+pub falls-broken : (f : ℕ) (cards : List Card) (n m : ℕ) → n ≤ m → m ≤ length cards
+    → falls_in_suit f n (top_part n cards) ≡ false
     → falls_in_suit f m (top_part m cards) ≡ false
 falls-broken f cards n m less few broken =
     let rank : n ≡ m - (m - n) = omega (arith, less) in

@@ -26,7 +26,8 @@ same_suit-swap p Spades Spades = refl
 
 -- what holds in each suit holds
 pub in_each_suit : (suit : Suit) (b : Bool)
-    → (same_suit Spades suit && b) || ((same_suit Hearts suit && b) || ((same_suit Diamonds suit && b) || ((same_suit Clubs suit && b) || false))) ≡ b
+    → (same_suit Spades suit && b) ||
+    ((same_suit Hearts suit && b) || ((same_suit Diamonds suit && b) || ((same_suit Clubs suit && b) || false))) ≡ b
 in_each_suit Clubs true = refl
 in_each_suit Clubs false = refl
 in_each_suit Diamonds true = refl

@@ -6,7 +6,8 @@ ghost use Rattle.card_piles.specs.Builds.{same_suit, suits_fit, ranks_fit, build
 ghost use Rattle.card_sets.specs.Sets.{has};
 ghost use Rattle.game_rules.specs.Rules.{hole_wraps};
 ghost use Rattle.game_rules.specs.Board.{has_place};
-ghost use Rattle.game_rules.specs.Putting.{fills_space, goes_on_pile, is_next_on, are_neighbours, goes_in_hole, follows, fits_slot};
+ghost use Rattle.game_rules.specs.Putting.{fills_space, goes_on_pile, is_next_on, are_neighbours, goes_in_hole};
+ghost use Rattle.game_rules.specs.Putting.{follows, fits_slot};
 ghost use Rattle.legal_moves.specs.Fits.{Fits, is_asked_card_by_card};
 
 use card_piles::{Card, Suit, suits_fit};
@@ -29,7 +30,8 @@ fn with_rank(set: CardSet, rank: u8) -> CardSet
 fn rank_on(rules: &Rules, lower: u8) -> u8
     requires { IsRank lower }
     ensures low { result < 16 }
-    ensures fits { (rank : ℕ) → IsRank rank → ranks_fit rules.now.wrap rules.now.max_rank rank lower ≡ (result == rank) }
+    ensures fits { (rank : ℕ) → IsRank rank
+        → ranks_fit rules.now.wrap rules.now.max_rank rank lower ≡ (result == rank) }
 {
     if lower == 1 {
         if rules.wrap() { rules.max_rank() } else { 0 }
@@ -41,7 +43,8 @@ fn rank_on(rules: &Rules, lower: u8) -> u8
 /// The set with the card of this suit and rank, if the suit builds on the lower one.
 fn with_suit(rules: &Rules, set: CardSet, suit: Suit, rank: u8, lower: Suit) -> CardSet
     requires { rank < 16 }
-    ensures { (c : Card) → IsRank c.rank → has result c ≡ ((same_suit suit c.suit && ((rank == c.rank) && suits_fit rules.now.build c.suit lower)) || has set c) }
+    ensures { (c : Card) → IsRank c.rank → has result c ≡ ((same_suit suit c.suit &&
+        ((rank == c.rank) && suits_fit rules.now.build c.suit lower)) || has set c) }
 {
     if suits_fit(rules.build(), suit, lower) {
         set.with(suit, rank)
@@ -52,7 +55,8 @@ fn with_suit(rules: &Rules, set: CardSet, suit: Suit, rank: u8, lower: Suit) -> 
 
 /// The cards that build on the card.
 fn on_card(rules: &Rules, lower: Card) -> CardSet
-    ensures { (c : Card) → IsRank c.rank → has result c ≡ builds_on rules.now.build rules.now.wrap rules.now.max_rank c lower }
+    ensures { (c : Card) → IsRank c.rank
+        → has result c ≡ builds_on rules.now.build rules.now.wrap rules.now.max_rank c lower }
 {
     let suit = lower.suit();
     let rank = rank_on(rules, lower.rank());
@@ -98,7 +102,8 @@ fn on_foundation(rules: &Rules, f: u8, height: u8) -> CardSet
 /// The cards that go in the hole on a card of this rank.
 fn on_rank(rules: &Rules, rank: u8) -> CardSet
     requires { IsRank rank }
-    ensures { (c : Card) → IsRank c.rank → has result c ≡ are_neighbours (hole_wraps rules.now.goal) rules.now.max_rank c.rank rank }
+    ensures { (c : Card) → IsRank c.rank
+        → has result c ≡ are_neighbours (hole_wraps rules.now.goal) rules.now.max_rank c.rank rank }
 {
     let max_rank = rules.max_rank();
     let near = with_rank(with_rank(CardSet::none(), rank - 1), rank + 1);

@@ -46,7 +46,9 @@ fn push_single<T: Table>(rules: &Rules, table: &T, from: Place, offers: &mut Off
     requires no_pile { takes_groups from ≡ false }
     requires given { All (IsGiven rules.now (T.board table.now)) offers.old.items }
     requires room { array_vec_len offers.old < 285 }
-    ensures legal { (to : Place) → legal_of rules.now (T.board table.now) offers.new.items to ≡ legal_of rules.now (T.board table.now) offers.old.items to ++ legal_between rules.now (T.board table.now) to from }
+    ensures legal { (to : Place) → legal_of rules.now (T.board table.now) offers.new.items to
+        ≡ legal_of rules.now (T.board table.now) offers.old.items to
+        ++ legal_between rules.now (T.board table.now) to from }
     ensures given { All (IsGiven rules.now (T.board table.now)) offers.new.items }
     ensures len { array_vec_len offers.new ≤ array_vec_len offers.old + 1 }
 {
@@ -69,7 +71,9 @@ fn push_singles<T: Table>(rules: &Rules, table: &T, kind: Kind, n: u8, offers: &
     requires no_pile { (i : ℕ) → takes_groups (place_in kind i) ≡ false }
     requires given { All (IsGiven rules.now (T.board table.now)) offers.old.items }
     requires room { array_vec_len offers.old + n ≤ 285 }
-    ensures legal { (to : Place) → legal_of rules.now (T.board table.now) offers.new.items to ≡ legal_of rules.now (T.board table.now) offers.old.items to ++ legal_to rules.now (T.board table.now) (map (place_in kind) (range_with_len 0 n)) to }
+    ensures legal { (to : Place) → legal_of rules.now (T.board table.now) offers.new.items to
+        ≡ legal_of rules.now (T.board table.now) offers.old.items to
+        ++ legal_to rules.now (T.board table.now) (map (place_in kind) (range_with_len 0 n)) to }
     ensures given { All (IsGiven rules.now (T.board table.now)) offers.new.items }
     ensures len { array_vec_len offers.new ≤ array_vec_len offers.old + n }
 {
@@ -84,7 +88,9 @@ fn push_pile<T: Table>(rules: &Rules, table: &T, i: u8, offers: &mut Offers)
     requires few { length (pile_at (T.board table.now) i).cards ≤ 104 }
     requires given { All (IsGiven rules.now (T.board table.now)) offers.old.items }
     requires room { array_vec_len offers.old + length (pile_at (T.board table.now) i).cards ≤ 285 }
-    ensures legal { (to : Place) → legal_of rules.now (T.board table.now) offers.new.items to ≡ legal_of rules.now (T.board table.now) offers.old.items to ++ legal_between rules.now (T.board table.now) to (Tableau i) }
+    ensures legal { (to : Place) → legal_of rules.now (T.board table.now) offers.new.items to
+        ≡ legal_of rules.now (T.board table.now) offers.old.items to
+        ++ legal_between rules.now (T.board table.now) to (Tableau i) }
     ensures given { All (IsGiven rules.now (T.board table.now)) offers.new.items }
     ensures len { array_vec_len offers.new ≤ array_vec_len offers.old + length (pile_at (T.board table.now) i).cards }
 {
@@ -123,7 +129,8 @@ fn push_pile<T: Table>(rules: &Rules, table: &T, i: u8, offers: &mut Offers)
 fn push_piles<T: Table>(rules: &Rules, table: &T, offers: &mut Offers)
     requires belongs { Belongs rules.now (T.board table.now) }
     requires empty { offers.old.items ≡ [] }
-    ensures legal { (to : Place) → legal_of rules.now (T.board table.now) offers.new.items to ≡ legal_to rules.now (T.board table.now) (map Tableau (range_with_len 0 rules.now.piles)) to }
+    ensures legal { (to : Place) → legal_of rules.now (T.board table.now) offers.new.items to
+        ≡ legal_to rules.now (T.board table.now) (map Tableau (range_with_len 0 rules.now.piles)) to }
     ensures given { All (IsGiven rules.now (T.board table.now)) offers.new.items }
     ensures len { array_vec_len offers.new ≤ 104 }
 {
@@ -144,7 +151,8 @@ fn entry_count(rules: &Rules) -> u8
 pub(crate) fn offers<T: Table>(rules: &Rules, table: &T, offers: &mut Offers)
     requires belongs { Belongs rules.now (T.board table.now) }
     requires empty { offers.old.items ≡ [] }
-    ensures legal { (to : Place) → legal_of rules.now (T.board table.now) offers.new.items to ≡ legal_to rules.now (T.board table.now) (sources rules.now (T.board table.now)) to }
+    ensures legal { (to : Place) → legal_of rules.now (T.board table.now) offers.new.items to
+        ≡ legal_to rules.now (T.board table.now) (sources rules.now (T.board table.now)) to }
     ensures given { All (IsGiven rules.now (T.board table.now)) offers.new.items }
 {
     let _ = rules.max_rank();

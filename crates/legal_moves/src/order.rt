@@ -1,5 +1,6 @@
 //! The list of the legal moves of a table, in their order.
-ghost use Rattle.std.specs.Prelude.{◌≡◌, ℕ, ◌≤◌, ◌<◌, ◌+◌, ◌∷◌, [], ◌++◌, map, true, false, Option, ◌||◌, ◌&&◌, ◌==◌, not, length, IsTrue, IfSome, OnOk, OnErr};
+ghost use Rattle.std.specs.Prelude.{◌≡◌, ℕ, ◌≤◌, ◌<◌, ◌+◌, ◌∷◌, [], ◌++◌, map, true, false, Option, ◌||◌, ◌&&◌, ◌==◌};
+ghost use Rattle.std.specs.Prelude.{not, length, IsTrue, IfSome, OnOk, OnErr};
 ghost use Rattle.std.specs.List.{All, filter, flat_map, range_with_len};
 ghost use Rattle.card_piles.specs.declared.Card.{Card};
 ghost use Rattle.card_sets.specs.Sets.{has_bit};
@@ -39,7 +40,8 @@ fn free(offers: &[Offer]) -> CardSet
 /// Whether what is offered goes on a place that accepts a set of cards: it does not lie there already.
 fn is_fitted(to: Place, set: CardSet, offer: Offer) -> bool
     requires { offer.bit.place < 64 }
-    ensures { result ≡ (((takes_groups to || (offer.count == 1)) && has_bit set offer.bit) && not (same_place offer.from to)) }
+    ensures { result ≡ (((takes_groups to || (offer.count == 1)) && has_bit set offer.bit)
+        && not (same_place offer.from to)) }
 {
     (takes_groups(to) || offer.count == 1) && set.has_bit(offer.bit) && are_apart(offer.from, to)
 }
@@ -123,7 +125,9 @@ fn list_onto<T: Table>(
     requires here { (i : ℕ) → i < n → IsTrue (has_place rules.now (T.board table.now) (place_in kind i)) }
     requires given { All (IsGiven rules.now (T.board table.now)) offers.now }
     requires free { All (λ offer. has_bit free offer.bit ≡ true) offers.now }
-    ensures ok { OnOk result (out.new.items ≡ out.old.items ++ flat_map (legal_of rules.now (T.board table.now) offers.now) (map (place_in kind) (range_with_len 0 n))) }
+    ensures ok { OnOk result (out.new.items ≡ out.old.items
+        ++ flat_map (legal_of rules.now (T.board table.now) offers.now)
+        (map (place_in kind) (range_with_len 0 n))) }
     ensures err { OnErr result (StartsWith out.new.items out.old.items) }
 {
     for i in 0..n {
@@ -150,7 +154,9 @@ fn list_onto_piles<T: Table>(
     requires belongs { Belongs rules.now (T.board table.now) }
     requires given { All (IsGiven rules.now (T.board table.now)) offers.now }
     requires free { All (λ offer. has_bit free offer.bit ≡ true) offers.now }
-    ensures ok { OnOk result (out.new.items ≡ out.old.items ++ flat_map (legal_of rules.now (T.board table.now) offers.now) (map Tableau (range_with_len 0 rules.now.piles))) }
+    ensures ok { OnOk result (out.new.items ≡ out.old.items
+        ++ flat_map (legal_of rules.now (T.board table.now) offers.now)
+        (map Tableau (range_with_len 0 rules.now.piles))) }
     ensures err { OnErr result (StartsWith out.new.items out.old.items) }
 {
     if are_piles_closed(rules) {
@@ -169,7 +175,8 @@ fn list_to_hole<T: Table>(
 ) -> Result<(), AllocError>
     requires given { All (IsGiven rules.now (T.board table.now)) offers.now }
     requires free { All (λ offer. has_bit free offer.bit ≡ true) offers.now }
-    ensures ok { OnOk result (out.new.items ≡ out.old.items ++ flat_map (legal_of rules.now (T.board table.now) offers.now) (hole_place rules.now)) }
+    ensures ok { OnOk result (out.new.items ≡ out.old.items
+        ++ flat_map (legal_of rules.now (T.board table.now) offers.now) (hole_place rules.now)) }
     ensures err { OnErr result (StartsWith out.new.items out.old.items) }
 {
     if rules.has_hole() {
@@ -187,7 +194,9 @@ fn list_carries<T: Table>(
 ) -> Result<(), AllocError>
     requires belongs { Belongs rules.now (T.board table.now) }
     requires given { All (IsGiven rules.now (T.board table.now)) offers.now }
-    ensures ok { OnOk result (out.new.items ≡ out.old.items ++ flat_map (legal_of rules.now (T.board table.now) offers.now) (targets rules.now (T.board table.now))) }
+    ensures ok { OnOk result (out.new.items ≡ out.old.items
+        ++ flat_map (legal_of rules.now (T.board table.now) offers.now)
+        (targets rules.now (T.board table.now))) }
     ensures err { OnErr result (StartsWith out.new.items out.old.items) }
 {
     let free = free(offers);
@@ -223,7 +232,8 @@ fn push_legal<T: Table>(
     out: &mut Vec<Move>,
 ) -> Result<(), AllocError>
     requires { Belongs rules.now (T.board table.now) }
-    ensures ok { OnOk result (out.new.items ≡ out.old.items ++ filter (is_legal_move rules.now (T.board table.now)) (m ∷ [])) }
+    ensures ok { OnOk result (out.new.items ≡ out.old.items
+        ++ filter (is_legal_move rules.now (T.board table.now)) (m ∷ [])) }
     ensures err { OnErr result (StartsWith out.new.items out.old.items) }
 {
     if is_legal(rules, table, m) {

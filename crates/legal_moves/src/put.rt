@@ -79,7 +79,8 @@ fn is_complete_run<T: Table>(rules: &Rules, table: &T, given: Offer, f: u8, heig
 pub(crate) fn can_put<T: Table>(rules: &Rules, table: &T, given: Offer, to: Place) -> bool
     requires given { IsGiven rules.now (T.board table.now) given }
     requires here { IsTrue (has_place rules.now (T.board table.now) to) }
-    ensures { result ≡ can_put rules.now (T.board table.now) to (taken rules.now (T.board table.now) given.from given.count) }
+    ensures { result ≡ can_put rules.now (T.board table.now) to
+        (taken rules.now (T.board table.now) given.from given.count) }
 {
     if !is_asked_card_by_card(rules, to) {
         return match to {

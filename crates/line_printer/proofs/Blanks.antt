@@ -1,5 +1,6 @@
 -- The texts of moves hold no newline, and those of places and numbers no blank.
-use Rattle.std.proofs.Common.{◌≡◌, ◌<◌, ◌≤◌, ◌+◌, ◌%◌, ◌/◌, ◌^◌, ◌==◌, ℕ, List, [], ◌∷◌, ◌++◌, ◌&&◌, nat_lt, Bool, true, false, decimal, refl, arith}
+use Rattle.std.proofs.Common.{◌≡◌, ◌<◌, ◌≤◌, ◌+◌, ◌%◌, ◌/◌, ◌^◌, ◌==◌, ℕ, List, [], ◌∷◌, ◌++◌, ◌&&◌, nat_lt, Bool, true}
+use Rattle.std.proofs.Common.{false, decimal, refl, arith}
 use Rattle.std.specs.List.{All}
 use Rattle.std.proofs.lemmas.Bool.{ne_eqb, ltb-true}
 use Rattle.std.proofs.lemmas.Fmt.{decimal_by_steps}
@@ -37,7 +38,8 @@ IsVisible-place (Slot i) small = lettered 115 i (omega arith) small
 
 -- no byte is this one
 pub no_byte : (low c : ℕ) (text : List ℕ) → c < low → All (λ b. low ≤ b) text → All (λ b. (b == c) ≡ false) text
-no_byte low c text less high = All-weaker (λ b. low ≤ b) (λ b. (b == c) ≡ false) (λ b h. ne_eqb b c (λ e. omega arith)) text high
+no_byte low c text less high = All-weaker (λ b. low ≤ b) (λ b. (b == c) ≡ false)
+    (λ b h. ne_eqb b c (λ e. omega arith)) text high
 
 pub and_both : (a b : Bool) → (a && b) ≡ true → (a ≡ true) × (b ≡ true)
 and_both true true e = (refl, refl)

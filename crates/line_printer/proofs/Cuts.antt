@@ -1,12 +1,14 @@
 -- A list that is cut at the first element that passes.
-use Rattle.std.proofs.Common.{◌≡◌, ◌<◌, ◌≤◌, ◌+◌, ◌-◌, ℕ, List, [], ◌∷◌, length, take, drop, Bool, true, false, cond, nat_lt, Some, None, Option, refl, ap, sym, ◌∙◌, arith, length-drop}
+use Rattle.std.proofs.Common.{◌≡◌, ◌<◌, ◌≤◌, ◌+◌, ◌-◌, ℕ, List, [], ◌∷◌, length, take, drop, Bool, true, false, cond}
+use Rattle.std.proofs.Common.{nat_lt, Some, None, Option, refl, ap, sym, ◌∙◌, arith, length-drop}
 use Rattle.std.specs.List.{slice_split, position, position_or_len, before_first, after_first, count_by}
 use Rattle.std.proofs.lemmas.Bool.{ltb-true, ltb-false}
 use Rattle.std.proofs.lemmas.List.{take_all}
 use Rattle.std.proofs.lemmas.List.Sums.{fails_before_first}
 use Rattle.std.proofs.lemmas.List.Splits.{slice_split_first, slice_split_none, length-slice_split}
 
-pub position_some : (p : ℕ → Bool) (xs : List ℕ) (at : ℕ) → Some at ≡ position p xs → (position_or_len p xs ≡ at) × (position_or_len p xs < length xs)
+pub position_some : (p : ℕ → Bool) (xs : List ℕ) (at : ℕ) → Some at ≡ position p xs → (position_or_len p xs ≡ at)
+    × (position_or_len p xs < length xs)
 position_some p xs at is =
     let n = position_or_len p xs in
     let by_test : (b : Bool) → nat_lt n (length xs) ≡ b → Some at ≡ cond b (Some n) None → (n ≡ at) × (n < length xs) =
@@ -17,7 +19,8 @@ position_some p xs at is =
 pub position_none : (p : ℕ → Bool) (xs : List ℕ) → None ≡ position p xs → length xs ≤ position_or_len p xs
 position_none p xs is =
     let n = position_or_len p xs in
-    let by_test : (b : Bool) → nat_lt n (length xs) ≡ b → ◌≡◌ {A = Option ℕ} None (cond b (Some n) None) → length xs ≤ n =
+    let by_test : (b : Bool) → nat_lt n (length xs) ≡ b
+    → ◌≡◌ {A = Option ℕ} None (cond b (Some n) None) → length xs ≤ n =
     λ b. elim b as (λ b. nat_lt n (length xs) ≡ b → ◌≡◌ {A = Option ℕ} None (cond b (Some n) None) → length xs ≤ n)
     [ true ↦ λ t e. absurd (cc) | false ↦ λ t e. ltb-false _ _ t ] in
     by_test (nat_lt n (length xs)) refl is
@@ -45,11 +48,13 @@ before_some p xs at is = ap (λ n. take n xs) (position_some p xs at is).0
 pub before_none : (p : ℕ → Bool) (xs : List ℕ) → None ≡ position p xs → before_first p xs ≡ xs
 before_none p xs is = take_all (position_or_len p xs) xs (position_none p xs is)
 
-pub after_some : (p : ℕ → Bool) (xs : List ℕ) (at : ℕ) → Some at ≡ position p xs → take (length xs - (at + 1)) (drop (at + 1) xs) ≡ after_first p xs
+pub after_some : (p : ℕ → Bool) (xs : List ℕ) (at : ℕ) → Some at ≡ position p xs
+    → take (length xs - (at + 1)) (drop (at + 1) xs) ≡ after_first p xs
 after_some p xs at is = range_from xs (at + 1) ∙ ap (λ n. drop (n + 1) xs) (sym (position_some p xs at is).0)
 
 -- the number of cuts
-pub count_more : (p : ℕ → Bool) (xs first rest : List ℕ) → slice_split p xs ≡ first ∷ slice_split p rest → count_by p xs ≡ count_by p rest + 1
+pub count_more : (p : ℕ → Bool) (xs first rest : List ℕ) → slice_split p xs ≡ first ∷ slice_split p rest
+    → count_by p xs ≡ count_by p rest + 1
 count_more p xs first rest cut =
     let all = length-slice_split p xs in
     let left = length-slice_split p rest in

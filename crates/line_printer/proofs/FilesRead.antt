@@ -1,5 +1,8 @@
 -- Line files: what is written reads back, and what is read was written.
-use Rattle.std.proofs.Common.{◌≡◌, ◌&&◌, nat_lt, ◌<◌, ◌≤◌, ◌+◌, ◌^◌, ◌==◌, ◌⊎◌, suc, ℕ, List, [], ◌∷◌, ◌++◌, length, get_or, take, drop, Bool, true, false, cond, Option, Some, None, Result, Ok, Err, IfOk, decimal, codes, refl, ap, sym, subst, ◌∙◌, append_assoc, inl, inr, lit<, lit≤, arith, length-append}
+use Rattle.std.proofs.Common.{◌≡◌, ◌&&◌, nat_lt, ◌<◌, ◌≤◌, ◌+◌, ◌^◌, ◌==◌, ◌⊎◌, suc, ℕ, List, [], ◌∷◌, ◌++◌, length}
+use Rattle.std.proofs.Common.{get_or, take, drop, Bool, true, false, cond, Option, Some, None, Result, Ok, Err, IfOk}
+use Rattle.std.proofs.Common.{decimal, codes, refl, ap, sym, subst, ◌∙◌, append_assoc, inl, inr, lit<, lit≤}
+use Rattle.std.proofs.Common.{arith, length-append}
 use Rattle.std.specs.List.{All, slice_split, before_first, after_first, position_or_len, join_with_byte, count_by}
 use Rattle.std.specs.Str.{bytes_eq}
 use Rattle.std.proofs.lemmas.Bool.{le-ltb, ltb-true}
@@ -13,7 +16,8 @@ use Rattle.game_rules.specs.Play.{is_empty}
 use Rattle.line_printer.specs.declared.fault.LineFault.{LineFault}
 use Rattle.line_printer.specs.declared.fault.LineFault.TheVariants.{TooLong, BadMove}
 use Rattle.line_printer.specs.MoveText.{move_text, move_of_text, IsSmall}
-use Rattle.line_printer.specs.LineFile.{ended, line_text, parts_of, newlines, after_line, has_head, past_head, with_move, moves_from, line_within, most_bytes, line_of}
+use Rattle.line_printer.specs.LineFile.{ended, line_text, parts_of, newlines, after_line, has_head, past_head}
+use Rattle.line_printer.specs.LineFile.{with_move, moves_from, line_within, most_bytes, line_of}
 use Rattle.line_printer.specs.Reads.{ReadsAs}
 use Rattle.line_printer.proofs.Cuts.{count_more}
 use Rattle.line_printer.proofs.Steps.{moves_from-line}
@@ -28,14 +32,19 @@ cond_is true x y v e = inl (refl, e)
 cond_is false x y v e = inr (refl, e)
 
 -- a line and its newline before a text
-position-line : (first rest : List ℕ) → IsOnOneLine first → position_or_len (λ b. b == 10) (first ++ 10 ∷ rest) ≡ length first
+position-line : (first rest : List ℕ) → IsOnOneLine first
+    → position_or_len (λ b. b == 10) (first ++ 10 ∷ rest) ≡ length first
 position-line first rest whole =
-    position_or_len_is (λ b. b == 10) (first ++ 10 ∷ rest) (length first) 0 (omega (arith, length-append first (10 ∷ rest)))
-    (λ k l. let P : ℕ → Type 0 = λ b. (b == 10) ≡ false in subst P (sym (get_or_append_left first (10 ∷ rest) 0 k l)) (whole k 0 l))
-    (λ l. let P : ℕ → Type 0 = λ b. (b == 10) ≡ true in subst P (sym (get_or_at first 10 rest 0 (length first) refl)) refl)
+    position_or_len_is (λ b. b == 10) (first ++ 10 ∷ rest) (length first) 0
+    (omega (arith, length-append first (10 ∷ rest)))
+    (λ k l. let P : ℕ → Type 0 = λ b.
+    (b == 10) ≡ false in subst P (sym (get_or_append_left first (10 ∷ rest) 0 k l)) (whole k 0 l))
+    (λ l. let P : ℕ → Type 0 = λ b.
+    (b == 10) ≡ true in subst P (sym (get_or_at first 10 rest 0 (length first) refl)) refl)
 
 before-line : (first rest : List ℕ) → IsOnOneLine first → before_first (λ b. b == 10) (first ++ 10 ∷ rest) ≡ first
-before-line first rest whole = ap (λ n. take n (first ++ 10 ∷ rest)) (position-line first rest whole) ∙ take_at first (10 ∷ rest) (length first) refl
+before-line first rest whole = ap (λ n. take n (first ++ 10 ∷ rest)) (position-line first rest whole)
+    ∙ take_at first (10 ∷ rest) (length first) refl
 
 pub after_line-line : (first rest : List ℕ) → IsOnOneLine first → after_line (first ++ 10 ∷ rest) ≡ rest
 unfolding after_line
@@ -45,17 +54,21 @@ after_line-line first rest whole =
     ∙ drop_at (first ++ 10 ∷ []) rest (length first + 1) (length-append first (10 ∷ []))
 
 newlines-line : (first rest : List ℕ) → IsOnOneLine first → newlines (first ++ 10 ∷ rest) ≡ newlines rest + 1
-newlines-line first rest whole = count_more (λ b. b == 10) (first ++ 10 ∷ rest) first rest (slice_split_at (λ b. b == 10) first 10 rest whole refl)
+newlines-line first rest whole = count_more (λ b. b == 10) (first ++ 10 ∷ rest) first rest
+    (slice_split_at (λ b. b == 10) first 10 rest whole refl)
 
-pub moves_from-line_text : (moves : List Move) (line : ℕ) → All IsSmall moves → moves_from line (parts_of (line_text moves)) ≡ Ok moves
+pub moves_from-line_text : (moves : List Move) (line : ℕ) → All IsSmall moves
+    → moves_from line (parts_of (line_text moves)) ≡ Ok moves
 moves_from-line_text [] line small = refl
 moves_from-line_text (m ∷ moves) line small =
     let first = All-head IsSmall m moves small in
     ap (λ text. moves_from line (parts_of text)) (append_assoc (move_text m) (10 ∷ []) (line_text moves))
-    ∙ ap (moves_from line) (slice_split_at (λ b. b == 10) (move_text m) 10 (line_text moves) (move_on_one_line m first) refl)
+    ∙ ap (moves_from line)
+    (slice_split_at (λ b. b == 10) (move_text m) 10 (line_text moves) (move_on_one_line m first) refl)
     ∙ moves_from-line line (move_text m) (line_text moves)
     ∙ ap (λ move. with_move line move (moves_from (line + 1) (parts_of (line_text moves)))) (move_read m first)
-    ∙ ap (λ reading. with_move line (Some m) reading) (moves_from-line_text moves (line + 1) (All-tail IsSmall m moves small))
+    ∙ ap (λ reading. with_move line (Some m) reading)
+    (moves_from-line_text moves (line + 1) (All-tail IsSmall m moves small))
 
 winnable_is_none : move_of_text (codes "winnable") ≡ None
 unfolding move_of_text
@@ -75,11 +88,14 @@ has_head-line_text [] small = refl
 has_head-line_text (m ∷ moves) small =
     let first = All-head IsSmall m moves small in
     let line : before_first (λ b. b == 10) (line_text (m ∷ moves)) ≡ move_text m =
-    ap (before_first (λ b. b == 10)) (append_assoc (move_text m) (10 ∷ []) (line_text moves)) ∙ before-line (move_text m) (line_text moves) (move_on_one_line m first) in
-    ap (λ text. bytes_eq text (codes "winnable")) line ∙ no_head m first (bytes_eq (move_text m) (codes "winnable")) refl
+    ap (before_first (λ b. b == 10)) (append_assoc (move_text m) (10 ∷ []) (line_text moves))
+    ∙ before-line (move_text m) (line_text moves) (move_on_one_line m first) in
+    ap (λ text. bytes_eq text (codes "winnable")) line
+    ∙ no_head m first (bytes_eq (move_text m) (codes "winnable")) refl
 
 -- the text of a line reads back as the line
-pub line_of-line_text : (moves : List Move) → All IsSmall moves → length (line_text moves) ≤ most_bytes → line_of (line_text moves) ≡ Ok moves
+pub line_of-line_text : (moves : List Move) → All IsSmall moves → length (line_text moves) ≤ most_bytes
+    → line_of (line_text moves) ≡ Ok moves
 line_of-line_text moves small short =
     line_of_plain (line_text moves) short (has_head-line_text moves small) ∙ moves_from-line_text moves 1 small
 
@@ -96,8 +112,10 @@ head_of rest =
     ap (λ t. bytes_eq t (codes "winnable")) (before-line (codes "winnable") rest winnable_on_one_line)
     ∙ (bytes_eq-Decides (codes "winnable") (codes "winnable")).1 refl
 
-pub line_of-headed : (b c d : List ℕ) (moves : List Move) → IsOnOneLine b → IsOnOneLine c → IsOnOneLine d → All IsSmall moves
-    → length (headed (codes "winnable") b c d (line_text moves)) ≤ most_bytes → line_of (headed (codes "winnable") b c d (line_text moves)) ≡ Ok moves
+pub line_of-headed : (b c d : List ℕ) (moves : List Move) → IsOnOneLine b → IsOnOneLine c → IsOnOneLine d
+    → All IsSmall moves
+    → length (headed (codes "winnable") b c d (line_text moves)) ≤ most_bytes
+    → line_of (headed (codes "winnable") b c d (line_text moves)) ≡ Ok moves
 line_of-headed b c d moves whole_b whole_c whole_d small short =
     let a = codes "winnable" in
     let text = line_text moves in
@@ -117,13 +135,15 @@ line_of-headed b c d moves whole_b whole_c whole_d small short =
     line_of_head (headed a b c d text) text short (head_of under_b) rest more ∙ moves_from-line_text moves 5 small
 
 -- the text of the lines from which moves were read
-with_move_ok : (line : ℕ) (move : Option Move) (reading : Result (List Move) LineFault) (moves : List Move) → with_move line move reading ≡ Ok moves
+with_move_ok : (line : ℕ) (move : Option Move) (reading : Result (List Move) LineFault) (moves : List Move)
+    → with_move line move reading ≡ Ok moves
     → (m : Move) × (rest : List Move) × (move ≡ Some m) × (reading ≡ Ok rest) × (m ∷ rest ≡ moves)
 with_move_ok line None reading moves is = absurd (cc)
 with_move_ok line (Some m) (Err fault) moves is = absurd (cc)
 with_move_ok line (Some m) (Ok rest) moves is = (m, rest, refl, refl, cc)
 
-parts_written : (parts : List (List ℕ)) (line : ℕ) (moves : List Move) → 0 < length parts → moves_from line parts ≡ Ok moves → join_with_byte 10 parts ≡ line_text moves
+parts_written : (parts : List (List ℕ)) (line : ℕ) (moves : List Move) → 0 < length parts
+    → moves_from line parts ≡ Ok moves → join_with_byte 10 parts ≡ line_text moves
 parts_written [] line moves some is = absurd (omega arith)
 parts_written (text ∷ []) line moves some is =
     elim (cond_is (is_empty text) (Ok []) (Err (BadMove line)) (Ok moves) is) [
@@ -139,18 +159,22 @@ parts_written (text ∷ next ∷ parts) line moves some is =
     ∙ sym (append_assoc (move_text read.0) (10 ∷ []) (line_text read.1))
     ∙ ap line_text read.4
 
-pub moves_from_written : (line : ℕ) (text : List ℕ) (moves : List Move) → moves_from line (parts_of text) ≡ Ok moves → text ≡ line_text moves
+pub moves_from_written : (line : ℕ) (text : List ℕ) (moves : List Move) → moves_from line (parts_of text) ≡ Ok moves
+    → text ≡ line_text moves
 moves_from_written line text moves is =
-    sym (join_with_byte-slice_split 10 text) ∙ parts_written (parts_of text) line moves (omega (arith, length-slice_split (λ b. b == 10) text)) is
+    sym (join_with_byte-slice_split 10 text) ∙ parts_written (parts_of text) line moves
+    (omega (arith, length-slice_split (λ b. b == 10) text)) is
 
 -- a file that is read is, past its head, the text of what it gave
-pub line_of_written : (bytes : List ℕ) (moves : List Move) → line_of bytes ≡ Ok moves → past_head bytes ≡ line_text moves
+pub line_of_written : (bytes : List ℕ) (moves : List Move) → line_of bytes ≡ Ok moves
+    → past_head bytes ≡ line_text moves
 unfolding line_of
 line_of_written bytes moves is =
     let cut = has_head bytes && nat_lt (newlines bytes) 4 in
     let first : ℕ = cond (has_head bytes) 5 1 in
     let reading = moves_from first (parts_of (past_head bytes)) in
-    elim (cond_is (nat_lt most_bytes (length bytes)) (Err TooLong) (cond cut (Err (BadMove (newlines bytes + 1))) reading) (Ok moves) is) [
+    elim (cond_is (nat_lt most_bytes (length bytes)) (Err TooLong)
+    (cond cut (Err (BadMove (newlines bytes + 1))) reading) (Ok moves) is) [
       | inl long ↦ absurd (cc)
       | inr short ↦ elim (cond_is cut (Err (BadMove (newlines bytes + 1))) reading (Ok moves) short.1) [
         | inl few ↦ absurd (cc)
@@ -158,6 +182,7 @@ line_of_written bytes moves is =
       ]
     ]
 
-pub written_of : (result : Result (List Move) LineFault) (bytes : List ℕ) → ReadsAs result (line_of bytes) → IfOk result (λ line. past_head bytes ≡ line_text line)
+pub written_of : (result : Result (List Move) LineFault) (bytes : List ℕ) → ReadsAs result (line_of bytes)
+    → IfOk result (λ line. past_head bytes ≡ line_text line)
 written_of (Ok moves) bytes reads = line_of_written bytes moves reads
 written_of (Err fault) bytes reads = tt

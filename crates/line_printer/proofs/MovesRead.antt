@@ -1,5 +1,7 @@
 -- The text of a move reads as the move.
-use Rattle.std.proofs.Common.{◌≡◌, ◌<◌, ◌≤◌, lit<, lit≤, ◌==◌, ◌&&◌, ◌||◌, not, ℕ, List, [], ◌∷◌, ◌++◌, Bool, true, false, cond, Option, Some, None, decimal, codes, refl, ap, sym, subst, ◌∙◌, append_assoc, arith}
+use Rattle.std.proofs.Common.{◌≡◌, ◌<◌, ◌≤◌, lit<, lit≤, ◌==◌, ◌&&◌, ◌||◌, not, ℕ, List, [], ◌∷◌, ◌++◌, Bool, true}
+use Rattle.std.proofs.Common.{false, cond, Option, Some, None, decimal, codes, refl, ap, sym, subst, ◌∙◌}
+use Rattle.std.proofs.Common.{append_assoc, arith}
 use Rattle.std.specs.List.{slice_split, All}
 use Rattle.std.proofs.lemmas.Bool.{eqb-true}
 use Rattle.std.proofs.lemmas.List.{append-nil}
@@ -9,7 +11,8 @@ use Rattle.game_rules.specs.declared.Move.{Move}
 use Rattle.game_rules.specs.declared.Move.TheVariants.{Carry, Deal, Redeal}
 use Rattle.game_rules.specs.declared.Place.{Place}
 use Rattle.game_rules.specs.Play.{number_of_place}
-use Rattle.line_printer.specs.MoveText.{place_text, is_pile, shows_count, move_text, IsSmall, number_of, place_of_text, short_carry, long_carry, move_of_words, move_of_text}
+use Rattle.line_printer.specs.MoveText.{place_text, is_pile, shows_count, move_text, IsSmall, number_of, place_of_text}
+use Rattle.line_printer.specs.MoveText.{short_carry, long_carry, move_of_words, move_of_text}
 use Rattle.line_printer.proofs.Blanks.{IsVisible, IsVisible-place, IsVisible-decimal, no_byte, are_above, above_by_test}
 use Rattle.line_printer.proofs.Places.{place_read, number_of_decimal}
 use Rattle.line_printer.proofs.Words.{words_of}
@@ -23,7 +26,8 @@ words_two a b seen_a seen_b =
     slice_split_at (λ b. b == 32) a 32 b (no_byte 33 32 a (lit< tt) seen_a) refl
     ∙ ap (λ words. a ∷ words) (slice_split_none (λ b. b == 32) b (no_byte 33 32 b (lit< tt) seen_b))
 
-words_three : (a b c : List ℕ) → IsVisible a → IsVisible b → IsVisible c → words_of (a ++ 32 ∷ (b ++ 32 ∷ c)) ≡ a ∷ b ∷ c ∷ []
+words_three : (a b c : List ℕ) → IsVisible a → IsVisible b → IsVisible c
+    → words_of (a ++ 32 ∷ (b ++ 32 ∷ c)) ≡ a ∷ b ∷ c ∷ []
 words_three a b c seen_a seen_b seen_c =
     slice_split_at (λ b. b == 32) a 32 (b ++ 32 ∷ c) (no_byte 33 32 a (lit< tt) seen_a) refl
     ∙ ap (λ words. a ∷ words) (words_two b c seen_b seen_c)
@@ -37,20 +41,24 @@ count_left_out false count e = (refl, eqb-true count 1 (not_false (count == 1) e
     not_false true e = refl
     not_false false e = absurd (cc)
 
-carry_read : (from to : Place) (count : ℕ) (shown : Bool) → IsSmall (Carry from to count) → shows_count from to count ≡ shown
-    → move_of_text (place_text from ++ codes " " ++ place_text to ++ cond shown (codes " " ++ decimal count) []) ≡ Some (Carry from to count)
+carry_read : (from to : Place) (count : ℕ) (shown : Bool) → IsSmall (Carry from to count)
+    → shows_count from to count ≡ shown
+    → move_of_text (place_text from ++ codes " " ++ place_text to ++ cond shown (codes " " ++ decimal count) [])
+    ≡ Some (Carry from to count)
 unfolding move_of_text
 carry_read from to count true small shown =
     let seen_from = IsVisible-place from small.0 in
     let seen_to = IsVisible-place to small.1 in
     ap (λ text. move_of_words (words_of text)) (spaced (place_text from) (place_text to) (32 ∷ decimal count))
-    ∙ ap move_of_words (words_three (place_text from) (place_text to) (decimal count) seen_from seen_to (IsVisible-decimal count (let l = small.2 in omega arith)))
+    ∙ ap move_of_words (words_three (place_text from) (place_text to) (decimal count) seen_from seen_to
+    (IsVisible-decimal count (let l = small.2 in omega arith)))
     ∙ rw (place_read from small.0, place_read to small.1, number_of_decimal count small.2, shown) refl
 carry_read from to count false small hidden =
     let seen_from = IsVisible-place from small.0 in
     let seen_to = IsVisible-place to small.1 in
     let left_out = count_left_out (is_pile from && is_pile to) count hidden in
-    ap (λ text. move_of_words (words_of text)) (spaced (place_text from) (place_text to) [] ∙ ap (λ text. place_text from ++ 32 ∷ text) (append-nil (place_text to)))
+    ap (λ text. move_of_words (words_of text)) (spaced (place_text from) (place_text to) []
+    ∙ ap (λ text. place_text from ++ 32 ∷ text) (append-nil (place_text to)))
     ∙ ap move_of_words (words_two (place_text from) (place_text to) seen_from seen_to)
     ∙ rw (place_read from small.0, place_read to small.1, left_out.0, left_out.1) refl
 
@@ -65,7 +73,8 @@ abbrev pub IsOnOneLine : List ℕ → Type 0
 IsOnOneLine text = All (λ b. (b == 10) ≡ false) text
 
 count_on_one_line : (count : ℕ) (shown : Bool) → count < 256 → IsOnOneLine (cond shown (codes " " ++ decimal count) [])
-count_on_one_line count true small = All-cons (λ b. (b == 10) ≡ false) 32 (decimal count) refl (no_byte 33 10 (decimal count) (lit< tt) (IsVisible-decimal count (omega arith)))
+count_on_one_line count true small = All-cons (λ b. (b == 10) ≡ false) 32 (decimal count) refl
+    (no_byte 33 10 (decimal count) (lit< tt) (IsVisible-decimal count (omega arith)))
 count_on_one_line count false small = All-nil (λ b. (b == 10) ≡ false)
 
 -- a word without a newline, by test

@@ -1,5 +1,6 @@
 -- The number of a text is the one whose decimal text it is.
-use Rattle.std.proofs.Common.{◌≡◌, ◌<◌, ◌^◌, ◌&&◌, ℕ, List, Bool, true, false, cond, nat_lt, decimal, Some, None, Option, refl, ap, sym, ◌∙◌, arith}
+use Rattle.std.proofs.Common.{◌≡◌, ◌<◌, ◌^◌, ◌&&◌, ℕ, List, Bool, true, false, cond, nat_lt, decimal, Some, None}
+use Rattle.std.proofs.Common.{Option, refl, ap, sym, ◌∙◌, arith}
 use Rattle.std.specs.Str.{bytes_eq}
 use Rattle.std.specs.Str.Parse.{digits_value}
 use Rattle.std.proofs.lemmas.Bool.{lt-ltb, ltb-true}
@@ -20,10 +21,15 @@ pub number_none : (text : List ℕ) → ((n : ℕ) → n < 256 → text ≡ deci
 unfolding number_of
 number_none text other =
     let v = digits_value 10 text in
-    let by_tests : (a b : Bool) → nat_lt v 256 ≡ a → bytes_eq (decimal v) text ≡ b → cond (a && b) (Some v) None ≡ None =
+    let by_tests : (a b : Bool) → nat_lt v 256 ≡ a → bytes_eq (decimal v) text ≡ b
+    → cond (a && b) (Some v) None ≡ None =
     λ a b. elim a as (λ a. nat_lt v 256 ≡ a → bytes_eq (decimal v) text ≡ b → cond (a && b) (Some v) None ≡ None) [
       | false ↦ λ p q. refl
-      | true ↦ elim b as (λ b. nat_lt v 256 ≡ true → bytes_eq (decimal v) text ≡ b → cond (true && b) (Some v) None ≡ None)
-          [ false ↦ λ p q. refl | true ↦ λ p q. absurd (other v (ltb-true _ _ p) (sym ((bytes_eq-Decides (decimal v) text).0 q))) ]
+      | true ↦ elim b as
+          (λ b. nat_lt v 256 ≡ true → bytes_eq (decimal v) text ≡ b → cond (true && b) (Some v) None ≡ None) [
+            | false ↦ λ p q. refl
+            | true ↦ λ p q.
+                absurd (other v (ltb-true _ _ p) (sym ((bytes_eq-Decides (decimal v) text).0 q)))
+          ]
     ] in
     by_tests (nat_lt v 256) (bytes_eq (decimal v) text) refl refl

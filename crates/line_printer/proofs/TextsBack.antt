@@ -1,5 +1,6 @@
 -- Written texts read back.
-use Rattle.std.proofs.Common.{◌≡◌, ◌<◌, ◌≤◌, ◌^◌, ◌==◌, false, ℕ, List, [], ◌∷◌, ◌++◌, length, Vec, Result, Ok, Err, IfOk, decimal, codes, refl, ap, sym, subst, ◌∙◌, append_assoc, lit<}
+use Rattle.std.proofs.Common.{◌≡◌, ◌<◌, ◌≤◌, ◌^◌, ◌==◌, false, ℕ, List, [], ◌∷◌, ◌++◌, length, Vec, Result, Ok, Err}
+use Rattle.std.proofs.Common.{IfOk, decimal, codes, refl, ap, sym, subst, ◌∙◌, append_assoc, lit<}
 use Rattle.std.specs.List.{All}
 use Rattle.std.specs.declared.alloc.Global.{Global}
 use Rattle.std.proofs.lemmas.List.Elements.{All-append}
@@ -15,7 +16,8 @@ use Rattle.line_printer.proofs.MovesRead.{IsOnOneLine, word_on_one_line}
 use Rattle.line_printer.proofs.FilesRead.{headed, line_of-line_text, line_of-headed}
 
 -- a text that is a line's text
-pub text_back : (text : List ℕ) (moves : List Move) → text ≡ line_text moves → All IsSmall moves → length text ≤ most_bytes → line_of text ≡ Ok moves
+pub text_back : (text : List ℕ) (moves : List Move) → text ≡ line_text moves → All IsSmall moves
+    → length text ≤ most_bytes → line_of text ≡ Ok moves
 text_back text moves is small short =
     let P : List ℕ → Type 0 = λ t. length t ≤ most_bytes in
     ap line_of is ∙ line_of-line_text moves small (subst P is short)
@@ -25,10 +27,12 @@ regroup a b c d rest = simp append_assoc refl
 
 numbered_line : (word : List ℕ) (n : ℕ) → IsOnOneLine word → n < 2 ^ 64 → IsOnOneLine (word ++ decimal n)
 numbered_line word n whole small =
-    All-append (λ b. (b == 10) ≡ false) word (decimal n) whole (no_byte 33 10 (decimal n) (lit< tt) (IsVisible-decimal n small))
+    All-append (λ b. (b == 10) ≡ false) word (decimal n) whole
+    (no_byte 33 10 (decimal n) (lit< tt) (IsVisible-decimal n small))
 
 verdict_text_back : (line : List Move) (nodes narrow_nodes : ℕ) → Fitting line nodes narrow_nodes
-    → length (output_of (Winnable line nodes narrow_nodes)) ≤ most_bytes → line_of (output_of (Winnable line nodes narrow_nodes)) ≡ Ok line
+    → length (output_of (Winnable line nodes narrow_nodes)) ≤ most_bytes
+    → line_of (output_of (Winnable line nodes narrow_nodes)) ≡ Ok line
 unfolding output_of
 verdict_text_back line nodes narrow_nodes fit short =
     let b = codes "nodes " ++ decimal nodes in
@@ -43,11 +47,14 @@ verdict_text_back line nodes narrow_nodes fit short =
     (numbered_line (codes "moves ") (length line) (word_on_one_line (codes "moves ") refl) fit.few)
     fit.moves (subst P grouped short)
 
-pub verdict_back : (result : Result (Vec ℕ Global) NoMemory) (line moves : List Move) (nodes narrow_nodes : ℕ) → moves ≡ line
-    → IfOk result (λ text. text.items ≡ output_of (Winnable moves nodes narrow_nodes)) → IfOk result (λ text. Fitting moves nodes narrow_nodes)
+pub verdict_back : (result : Result (Vec ℕ Global) NoMemory) (line moves : List Move)
+    (nodes narrow_nodes : ℕ) → moves ≡ line
+    → IfOk result (λ text. text.items ≡ output_of (Winnable moves nodes narrow_nodes))
+    → IfOk result (λ text. Fitting moves nodes narrow_nodes)
     → IfOk result (λ text. length text.items ≤ most_bytes → ReadsBack text.items (Winnable line nodes narrow_nodes))
 verdict_back (Err fault) line moves nodes narrow_nodes same is fit = tt
 verdict_back (Ok text) line moves nodes narrow_nodes same is fit =
     let P : List ℕ → Type 0 = λ t. length t ≤ most_bytes → line_of t ≡ Ok moves in
-    let read : length text.items ≤ most_bytes → line_of text.items ≡ Ok moves = subst P (sym is) (verdict_text_back moves nodes narrow_nodes fit) in
+    let read : length text.items ≤ most_bytes → line_of text.items ≡ Ok moves = subst P (sym is)
+    (verdict_text_back moves nodes narrow_nodes fit) in
     λ few. read few ∙ ap (λ m. Ok m) same

@@ -6,7 +6,8 @@ use Rattle.line_printer.specs.LineFile.{ended, line_text, line_of}
 
 -- the lines that open the text of each verdict: its kind, and the nodes of the plain and of the narrow search
 abbrev pub head_text : List ℕ → ℕ → ℕ → List ℕ
-head_text kind nodes narrow_nodes = ended kind ++ ended (codes "nodes " ++ decimal nodes) ++ ended (codes "narrow " ++ decimal narrow_nodes)
+head_text kind nodes narrow_nodes = ended kind ++ ended (codes "nodes " ++ decimal nodes)
+    ++ ended (codes "narrow " ++ decimal narrow_nodes)
 
 -- the whole text of a verdict
 unfoldable pub output_of : Verdict → List ℕ

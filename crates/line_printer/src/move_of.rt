@@ -1,7 +1,8 @@
 //! Moves, read from their texts.
 ghost use Rattle.std.specs.Prelude.{◌≡◌, ◌<◌, ◌==◌, length, IfSome, MatchOption, [], ◌∷◌};
 ghost use Rattle.std.specs.List.{slice_split, before_first, after_first, position};
-ghost use Rattle.line_printer.specs.MoveText.{number_of, place_of_text, short_carry as short_carry_of, long_carry as long_carry_of, move_of_words, move_of_text};
+ghost use Rattle.line_printer.specs.MoveText.{number_of, place_of_text, short_carry as short_carry_of};
+ghost use Rattle.line_printer.specs.MoveText.{long_carry as long_carry_of, move_of_words, move_of_text};
 
 use crate::write::shows_count;
 use game_rules::{Move, Place};

@@ -1,7 +1,8 @@
 //! Line files, read.
 ghost use Rattle.std.specs.Prelude.{◌≡◌, ◌+◌, ◌<◌, ◌^◌, ◌==◌, length, IfOk, MatchResult};
 ghost use Rattle.std.specs.List.{before_first};
-ghost use Rattle.line_printer.specs.LineFile.{parts_of, newlines, after_line, has_head, past_head, line_text, moves_from, line_of};
+ghost use Rattle.line_printer.specs.LineFile.{parts_of, newlines, after_line, has_head, past_head, line_text};
+ghost use Rattle.line_printer.specs.LineFile.{moves_from, line_of};
 ghost use Rattle.line_printer.specs.Reads.{ReadsAs};
 
 use crate::LineFault;
@@ -27,7 +28,8 @@ fn after_line(line: u64, text: &[u8]) -> Result<&[u8], LineFault>
 /// What follows the first four lines.
 fn after_four_lines(bytes: &[u8]) -> Result<&[u8], LineFault>
     ensures { MatchResult result
-        (λ rest. (rest.now ≡ after_line (after_line (after_line (after_line bytes.now)))) × (newlines bytes.now ≡ newlines rest.now + 4))
+        (λ rest. (rest.now ≡ after_line (after_line (after_line (after_line bytes.now))))
+        × (newlines bytes.now ≡ newlines rest.now + 4))
         (λ fault. (fault ≡ LineFault.BadMove (newlines bytes.now + 1)) × (newlines bytes.now < 4)) }
 {
     let second = after_line(1, bytes)?;

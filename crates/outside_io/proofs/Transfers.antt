@@ -1,5 +1,7 @@
 -- What several reads took, and what several writes wrote, one after the other.
-use Rattle.std.proofs.Common.{◌≡◌, ◌<◌, ◌≤◌, ◌-◌, ℕ, List, ◌++◌, length, take, drop, Option, Some, None, Result, Ok, Err, OnErr, refl, sym, ap, ◌∙◌, subst, append-nil, append_assoc, length-append, take-append-drop, arith}
+use Rattle.std.proofs.Common.{◌≡◌, ◌<◌, ◌≤◌, ◌-◌, ℕ, List, ◌++◌, length, take, drop, Option, Some, None, Result, Ok}
+use Rattle.std.proofs.Common.{Err, OnErr, refl, sym, ap, ◌∙◌, subst, append-nil, append_assoc, length-append}
+use Rattle.std.proofs.Common.{take-append-drop, arith}
 use Rattle.std.proofs.Math.Seq.{take-append_seam}
 use Rattle.std.proofs.lemmas.List.{take_all, length-drop}
 use Rattle.std.specs.Io.KnownBytes.{Consumes, IsAtEnd, Keeps, Appends}
@@ -12,7 +14,8 @@ OnErr-any (Ok x) P p = tt
 OnErr-any (Err e) P p = p
 
 -- a reader at its end gave all its bytes
-pub reads_to_end : (most : ℕ) (before after : Option (List ℕ)) (old new done : List ℕ) → new ≡ old ++ done → Consumes before after done → length done ≤ most → IsAtEnd after
+pub reads_to_end : (most : ℕ) (before after : Option (List ℕ)) (old new done : List ℕ) → new ≡ old ++ done
+    → Consumes before after done → length done ≤ most → IsAtEnd after
     → ReadsFront most before after old new
 reads_to_end most None after old new done grew taken few end = record {
   bytes = done;
@@ -29,7 +32,8 @@ reads_to_end most (Some xs) (Some ys) old new done grew taken few end = record {
 }
 
 -- a reader gave as many bytes as were asked for
-pub reads_most : (most : ℕ) (before after : Option (List ℕ)) (old new done : List ℕ) → new ≡ old ++ done → Consumes before after done → length done ≡ most
+pub reads_most : (most : ℕ) (before after : Option (List ℕ)) (old new done : List ℕ) → new ≡ old ++ done
+    → Consumes before after done → length done ≡ most
     → ReadsFront most before after old new
 reads_most most None after old new done grew taken full = record {
   bytes = done;
@@ -39,7 +43,8 @@ reads_most most None after old new done grew taken full = record {
 }
 reads_most most (Some xs) None old new done grew taken full = absurd taken
 reads_most most (Some xs) (Some ys) old new done grew taken full =
-    let front : take most xs ≡ done = ap (take most) taken ∙ (ap (λ n. take n (done ++ ys)) (sym full) ∙ take-append_seam done ys) in
+    let front : take most xs ≡ done = ap (take most) taken
+    ∙ (ap (λ n. take n (done ++ ys)) (sym full) ∙ take-append_seam done ys) in
     record {
       bytes = xs;
       known = refl;
@@ -54,26 +59,32 @@ Keeps-from_nothing (Some xs) None bytes h = h
 Keeps-from_nothing (Some xs) (Some ys) bytes h = h ∙ append-nil xs
 
 -- a writer that holds what it held after some bytes
-pub Appends-kept : (old mid new : Option (List ℕ)) (bytes : List ℕ) → Appends old mid bytes → Keeps mid new → Appends old new bytes
+pub Appends-kept : (old mid new : Option (List ℕ)) (bytes : List ℕ) → Appends old mid bytes → Keeps mid new
+    → Appends old new bytes
 Appends-kept None mid new bytes h k = tt
 Appends-kept (Some xs) None new bytes h k = absurd h
 Appends-kept (Some xs) (Some ys) None bytes h k = absurd k
 Appends-kept (Some xs) (Some ys) (Some zs) bytes h k = k ∙ h
 
 -- of a piece more bytes were written, the first of the rest
-pub Appends-more : (old mid new : Option (List ℕ)) (piece bytes rest : List ℕ) (count : ℕ) → piece ≡ bytes ++ rest → Appends old mid bytes → Appends mid new (take count rest)
+pub Appends-more : (old mid new : Option (List ℕ)) (piece bytes rest : List ℕ) (count : ℕ) → piece ≡ bytes ++ rest
+    → Appends old mid bytes → Appends mid new (take count rest)
     → (done : List ℕ) × (piece ≡ done ++ take (length rest - count) (drop count rest)) × Appends old new done
 Appends-more old mid new piece bytes rest count is before after = (
   bytes ++ take count rest,
-  is ∙ ap (λ l. bytes ++ l) (sym (take-append-drop count rest)) ∙ sym (append_assoc bytes (take count rest) (drop count rest))
-      ∙ ap (λ l. (bytes ++ take count rest) ++ l) (sym (take_all (length rest - count) (drop count rest) (omega (arith, length-drop count rest)))),
+  is ∙ ap (λ l. bytes ++ l) (sym (take-append-drop count rest))
+      ∙ sym (append_assoc bytes (take count rest) (drop count rest))
+      ∙ ap (λ l. (bytes ++ take count rest) ++ l)
+      (sym (take_all (length rest - count) (drop count rest) (omega (arith, length-drop count rest)))),
   Appends-trans old mid new bytes (take count rest) before after,
 )
 
 -- of a piece nothing more was written, and some of it is left
-pub AppendsPart-stopped : (old mid new : Option (List ℕ)) (piece bytes rest : List ℕ) → piece ≡ bytes ++ rest → 0 < length rest → Appends old mid bytes → Keeps mid new → AppendsPart old new piece
+pub AppendsPart-stopped : (old mid new : Option (List ℕ)) (piece bytes rest : List ℕ) → piece ≡ bytes ++ rest
+    → 0 < length rest → Appends old mid bytes → Keeps mid new → AppendsPart old new piece
 AppendsPart-stopped old mid new piece bytes rest is some before kept = (
   length bytes,
   omega (arith, some, ap (λ (xs : List ℕ). length xs) is, length-append bytes rest),
-  subst (Appends old new) (sym (ap (take (length bytes)) is ∙ take-append_seam bytes rest)) (Appends-kept old mid new bytes before kept),
+  subst (Appends old new) (sym (ap (take (length bytes)) is ∙ take-append_seam bytes rest))
+      (Appends-kept old mid new bytes before kept),
 )

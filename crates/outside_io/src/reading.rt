@@ -38,7 +38,8 @@ pub(crate) fn read_up_to<F: Read>(
     out: &mut Vec<u8>,
     faults: &mut u64,
 ) -> Result<(), ShelfFault>
-    ensures front { OnOk result (ReadsFront (limit + 1) (F.remaining file.old) (F.remaining file.new) out.old.items out.new.items) }
+    ensures front { OnOk result (ReadsFront (limit + 1) (F.remaining file.old)
+        (F.remaining file.new) out.old.items out.new.items) }
     ensures part { OnErr result (GrowsUpTo limit out.old.items out.new.items) }
     ensures raised { IsErrOf result ShelfFault.Failed → faults.new ≡ one_more faults.old }
     ensures kept { ¬ (IsErrOf result ShelfFault.Failed) → faults.new ≡ faults.old }

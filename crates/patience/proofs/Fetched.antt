@@ -23,20 +23,24 @@ use Rattle.patience.specs.declared.report.Stop.{Stop}
 use Rattle.patience.specs.declared.report.Stop.TheVariants.{Told, NoMemory}
 use Rattle.patience.specs.declared.status.Status.TheVariants.{RulesRefused, DealRefused, LineRefused}
 use Rattle.patience.specs.Asked.{job_asked}
-use Rattle.patience.specs.Causes.{Shelved, Explains, HasRules, HasDeal, HasStart, HasLine, takes_deal, seed_of, rules_name, deal_name, line_name}
+use Rattle.patience.specs.Causes.{Shelved, Explains, HasRules, HasDeal, HasStart, HasLine, takes_deal, seed_of}
+use Rattle.patience.specs.Causes.{rules_name, deal_name, line_name}
 use Rattle.patience.specs.Stages.{Stops, RefusesRules, RefusesDeal, RefusesSeed, RefusesLine}
 
 -- the bytes that were read are those that were fetched
-pub read_as : (files : Option (List File)) (name read bytes : List ℕ) (limit : ℕ) → read ≡ bytes → Fetches files name limit [] bytes → Fetches files name limit [] read
+pub read_as : (files : Option (List File)) (name read bytes : List ℕ) (limit : ℕ) → read ≡ bytes
+    → Fetches files name limit [] bytes → Fetches files name limit [] read
 read_as files name read bytes limit same fetched = subst (λ b. Fetches files name limit [] b) (sym same) fetched
 
 rules_of-fetched : (files : Option (List File)) (name bytes : List ℕ) (fetched : Fetches files name 65536 [] bytes)
     → rules_of fetched.bytes ≡ rules_of bytes
 rules_of-fetched files name bytes fetched = sym (ap rules_of fetched.grew ∙ rules_of-take fetched.bytes)
 
-position_of-fetched : (files : Option (List File)) (name bytes : List ℕ) (rules : RuleParts) (fetched : Fetches files name 65536 [] bytes)
+position_of-fetched : (files : Option (List File)) (name bytes : List ℕ) (rules : RuleParts)
+    (fetched : Fetches files name 65536 [] bytes)
     → position_of rules fetched.bytes ≡ position_of rules bytes
-position_of-fetched files name bytes rules fetched = sym (ap (position_of rules) fetched.grew ∙ position_of-take rules fetched.bytes)
+position_of-fetched files name bytes rules fetched =
+    sym (ap (position_of rules) fetched.grew ∙ position_of-take rules fetched.bytes)
 
 line_of-fetched : (files : Option (List File)) (name bytes : List ℕ) (fetched : Fetches files name 67108864 [] bytes)
     → line_of fetched.bytes ≡ line_of bytes
@@ -54,7 +58,8 @@ has_rules files words j name bytes rules named job fetched accepted = record {
 }
 
 -- the deal that was read is that of the file
-pub has_deal : (files : Option (List File)) (words : List (List ℕ)) (j : Job) (name bytes : List ℕ) (rules : RuleParts) (board : Board)
+pub has_deal : (files : Option (List File)) (words : List (List ℕ)) (j : Job) (name bytes : List ℕ)
+    (rules : RuleParts) (board : Board)
     → name ≡ deal_name words → HasRules files words j rules → IsTrue (takes_deal j) → Fetches files name 65536 [] bytes
     → position_of rules bytes ≡ Ok board → HasDeal files words j rules board
 has_deal files words j name bytes rules board named by takes fetched accepted = record {
@@ -67,7 +72,8 @@ has_deal files words j name bytes rules board named by takes fetched accepted = 
 
 -- what stopped the reading of the rules has its cause in the file
 pub rules-stopped : (shelf : Shelved) (words : List (List ℕ)) (j : Job) (name bytes : List ℕ) (stop : Stop)
-    → name ≡ rules_name words → job_of words ≡ Ok j → Fetches shelf.files name 65536 [] bytes → Stops (RefusesRules bytes) stop
+    → name ≡ rules_name words → job_of words ≡ Ok j → Fetches shelf.files name 65536 [] bytes
+    → Stops (RefusesRules bytes) stop
     → Stops (Explains shelf words) stop
 rules-stopped shelf words j name bytes NoMemory named job fetched stopped = tt
 rules-stopped shelf words j name bytes (Told report) named job fetched stopped =
@@ -83,8 +89,10 @@ rules-stopped shelf words j name bytes (Told report) named job fetched stopped =
     subst (λ status. Explains shelf words status report.text.items) (sym stopped.2) cause
 
 -- what stopped the reading of the deal has its cause in the file
-pub deal-stopped : (shelf : Shelved) (words : List (List ℕ)) (j : Job) (name bytes : List ℕ) (rules : RuleParts) (stop : Stop)
-    → name ≡ deal_name words → HasRules shelf.files words j rules → IsTrue (takes_deal j) → Fetches shelf.files name 65536 [] bytes
+pub deal-stopped : (shelf : Shelved) (words : List (List ℕ)) (j : Job) (name bytes : List ℕ)
+    (rules : RuleParts) (stop : Stop)
+    → name ≡ deal_name words → HasRules shelf.files words j rules → IsTrue (takes_deal j)
+    → Fetches shelf.files name 65536 [] bytes
     → Stops (RefusesDeal rules bytes) stop → Stops (Explains shelf words) stop
 deal-stopped shelf words j name bytes rules NoMemory named by takes fetched stopped = tt
 deal-stopped shelf words j name bytes rules (Told report) named by takes fetched stopped =
@@ -102,8 +110,10 @@ deal-stopped shelf words j name bytes rules (Told report) named by takes fetched
     subst (λ status. Explains shelf words status report.text.items) (sym stopped.2) cause
 
 -- the board of a seed is that of the rules
-pub has_dealt : (files : Option (List File)) (words : List (List ℕ)) (asked : Asked) (seed : ℕ) (rules : RuleParts) (board : Board)
-    → asked.source ≡ source.FromSeed seed → HasRules files words (job_asked asked) rules → seed_fault rules ≡ None → board ≡ seed_board rules seed
+pub has_dealt : (files : Option (List File)) (words : List (List ℕ)) (asked : Asked) (seed : ℕ)
+    (rules : RuleParts) (board : Board)
+    → asked.source ≡ source.FromSeed seed → HasRules files words (job_asked asked) rules → seed_fault rules ≡ None
+    → board ≡ seed_board rules seed
     → HasStart files words (job_asked asked) rules board
 has_dealt files words asked seed rules board is by fits dealt = inr (record {
   has_rules = by;
@@ -113,15 +123,19 @@ has_dealt files words asked seed rules board is by fits dealt = inr (record {
   dealt = dealt;
 })
 
-pub dealt-start : (files : Option (List File)) (words : List (List ℕ)) (asked : Asked) (seed : ℕ) (rules : RuleParts) (result : Result Board Stop)
-    → asked.source ≡ source.FromSeed seed → HasRules files words (job_asked asked) rules → IfOk result (λ board. board ≡ seed_board rules seed)
+pub dealt-start : (files : Option (List File)) (words : List (List ℕ)) (asked : Asked) (seed : ℕ) (rules : RuleParts)
+    (result : Result Board Stop)
+    → asked.source ≡ source.FromSeed seed → HasRules files words (job_asked asked) rules
+    → IfOk result (λ board. board ≡ seed_board rules seed)
     → IfOk result (λ board. seed_fault rules ≡ None) → IfOk result (HasStart files words (job_asked asked) rules)
-dealt-start files words asked seed rules (Ok board) is by dealt fits = has_dealt files words asked seed rules board is by fits dealt
+dealt-start files words asked seed rules (Ok board) is by dealt fits = has_dealt files words asked seed rules
+    board is by fits dealt
 dealt-start files words asked seed rules (Err stop) is by dealt fits = tt
 
 -- what stopped the deal of a seed has its cause in the rules
 pub seed-stopped : (shelf : Shelved) (words : List (List ℕ)) (j : Job) (rules : RuleParts) (seed : ℕ) (stop : Stop)
-    → HasRules shelf.files words j rules → seed_of j ≡ Some seed → Stops (RefusesSeed rules) stop → Stops (Explains shelf words) stop
+    → HasRules shelf.files words j rules → seed_of j ≡ Some seed → Stops (RefusesSeed rules) stop
+    → Stops (Explains shelf words) stop
 seed-stopped shelf words j rules seed NoMemory by given stopped = tt
 seed-stopped shelf words j rules seed (Told report) by given stopped =
     let cause : Explains shelf words DealRefused report.text.items = inr (record {
@@ -137,7 +151,8 @@ seed-stopped shelf words j rules seed (Told report) by given stopped =
     subst (λ status. Explains shelf words status report.text.items) (sym stopped.2) cause
 
 -- the moves that were read are those of the file
-pub has_line : (files : Option (List File)) (words : List (List ℕ)) (name bytes : List ℕ) (rules : RuleParts) (board : Board) (moves : List Move)
+pub has_line : (files : Option (List File)) (words : List (List ℕ)) (name bytes : List ℕ) (rules : RuleParts)
+    (board : Board) (moves : List Move)
     → name ≡ line_name words → HasDeal files words job.Replay rules board → Fetches files name 67108864 [] bytes
     → line_of bytes ≡ Ok moves → HasLine files words rules board moves
 has_line files words name bytes rules board moves named by fetched accepted = record {
@@ -148,8 +163,10 @@ has_line files words name bytes rules board moves named by fetched accepted = re
 }
 
 -- what stopped the reading of the line has its cause in the file
-pub line-stopped : (shelf : Shelved) (words : List (List ℕ)) (name bytes : List ℕ) (rules : RuleParts) (board : Board) (stop : Stop)
-    → name ≡ line_name words → HasDeal shelf.files words job.Replay rules board → Fetches shelf.files name 67108864 [] bytes
+pub line-stopped : (shelf : Shelved) (words : List (List ℕ)) (name bytes : List ℕ) (rules : RuleParts)
+    (board : Board) (stop : Stop)
+    → name ≡ line_name words → HasDeal shelf.files words job.Replay rules board
+    → Fetches shelf.files name 67108864 [] bytes
     → Stops (RefusesLine bytes) stop → Stops (Explains shelf words) stop
 line-stopped shelf words name bytes rules board NoMemory named by fetched stopped = tt
 line-stopped shelf words name bytes rules board (Told report) named by fetched stopped =

@@ -19,7 +19,8 @@ err-same result a b first second = cc
 -- what refuses a fault of the file refuses its rules
 pub stops-fault : (bytes : List ℕ) (result : Result RuleParts RulesFault) (fault : RulesFault) (stop : Stop)
     → result ≡ Err fault → ((result ≡ Err Memory → ⊥) → result ≡ rules_of bytes)
-    → Stops (λ status text. (fault ≢ Memory) × (status ≡ RulesRefused) × (text ≡ refused_text role.Rules (rules_fault_text fault))) stop
+    → Stops (λ status text.
+    (fault ≢ Memory) × (status ≡ RulesRefused) × (text ≡ refused_text role.Rules (rules_fault_text fault))) stop
     → Stops (RefusesRules bytes) stop
 stops-fault bytes result fault (Told report) is read h =
     let apart : result ≡ Err Memory → ⊥ = λ memory. h.0 (err-same result fault Memory is memory) in

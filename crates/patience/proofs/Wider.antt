@@ -7,7 +7,8 @@ use Rattle.outside_io.proofs.Rising.{Rose-earlier}
 use Rattle.patience.specs.declared.report.Stop.{Stop}
 use Rattle.patience.specs.declared.report.Stop.TheVariants.{Told, NoMemory}
 use Rattle.patience.specs.declared.status.Status.{Status}
-use Rattle.patience.specs.declared.status.Status.TheVariants.{Done, Usage, ShelfFailed, RulesRefused, DealRefused, LineRefused, SinkFailed, Memory}
+use Rattle.patience.specs.declared.status.Status.TheVariants.{Done, Usage, ShelfFailed, RulesRefused, DealRefused}
+use Rattle.patience.specs.declared.status.Status.TheVariants.{LineRefused, SinkFailed, Memory}
 use Rattle.patience.specs.Causes.{Explains}
 use Rattle.patience.specs.Stages.{Stops}
 
@@ -19,7 +20,13 @@ module _ (files : Option (List File)) (b0 b1 a1 a2 : List ℕ → ℕ) (words : 
     (earlier : (name : List ℕ) → b0 name ≤ b1 name) (later : (name : List ℕ) → a1 name ≡ a2 name) where
   failure-wider : Explains (record { files = files; before = b1; after = a1 }) words ShelfFailed text
       → Explains (record { files = files; before = b0; after = a2 }) words ShelfFailed text
-  failure-wider (inl x) = inl (record { job = x.job; named = x.named; rose = rose-wider _ _ _ _ (earlier _) (later _) x.rose; printed = x.printed })
+  failure-wider (inl x) = inl (record {
+    job = x.job;
+    named = x.named;
+    rose = rose-wider _ _ _ _ (earlier _)
+        (later _) x.rose;
+    printed = x.printed;
+  })
   failure-wider (inr (inl x)) = inr (inl (record {
     job = x.job;
     rules = x.rules;
@@ -36,7 +43,8 @@ module _ (files : Option (List File)) (b0 b1 a1 a2 : List ℕ → ℕ) (words : 
     printed = x.printed;
   }))
 
-  pub explains-wider : (status : Status) → Explains (record { files = files; before = b1; after = a1 }) words status text
+  pub explains-wider : (status : Status)
+      → Explains (record { files = files; before = b1; after = a1 }) words status text
       → Explains (record { files = files; before = b0; after = a2 }) words status text
   explains-wider Done h = h
   explains-wider Usage h = h

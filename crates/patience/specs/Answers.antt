@@ -22,7 +22,8 @@ use Rattle.win_replay.specs.declared.Replayed.TheVariants as replayed
 use Rattle.win_replay.specs.Replays.{IsReplayed}
 use Rattle.patience.specs.declared.asked.Asked.{Asked}
 use Rattle.patience.specs.declared.status.Status.{Status}
-use Rattle.patience.specs.declared.status.Status.TheVariants.{Done, Usage, RulesRefused, DealRefused, LineRefused, SinkFailed, Memory}
+use Rattle.patience.specs.declared.status.Status.TheVariants.{Done, Usage, RulesRefused, DealRefused, LineRefused}
+use Rattle.patience.specs.declared.status.Status.TheVariants.{SinkFailed, Memory}
 use Rattle.patience.specs.Asked.{job_asked}
 use Rattle.patience.specs.Causes.{Shelved, Fails, rules_name, deal_name, line_name, takes_deal, seed_of}
 
@@ -53,7 +54,8 @@ pub record GivesRules (shelf : Shelved) (words : List (List ℕ)) (job : Job) (r
   pub accepted : rules_of bytes ≡ Ok rules
 
 -- the shelf gives a deal besides
-pub record GivesDeal (shelf : Shelved) (words : List (List ℕ)) (job : Job) (rules : RuleParts) (board : Board) : Type 0 where
+pub record GivesDeal (shelf : Shelved) (words : List (List ℕ)) (job : Job) (rules : RuleParts)
+    (board : Board) : Type 0 where
   pub has_rules : GivesRules shelf words job rules
   pub takes : IsTrue (takes_deal job)
   pub bytes : List ℕ
@@ -63,19 +65,28 @@ pub record GivesDeal (shelf : Shelved) (words : List (List ℕ)) (job : Job) (ru
 -- the status is the one that must be answered to the words, and to the files that the shelf gives
 pub record IsDue (shelf : Shelved) (words : List (List ℕ)) (result : Status) : Type 0 where
   pub usage : (fault : WordFault) → job_of words ≡ Err fault → Yields Usage result
-  pub rules_refused : (job : Job) (bytes : List ℕ) (fault : RulesFault) → job_of words ≡ Ok job → Gives shelf (rules_name words) bytes
+  pub rules_refused : (job : Job) (bytes : List ℕ) (fault : RulesFault) → job_of words ≡ Ok job
+      → Gives shelf (rules_name words) bytes
       → rules_of bytes ≡ Err fault → Yields RulesRefused result
-  pub deal_refused : (job : Job) (rules : RuleParts) (bytes : List ℕ) (fault : DealFault) → GivesRules shelf words job rules
-      → IsTrue (takes_deal job) → Gives shelf (deal_name words) bytes → position_of rules bytes ≡ Err fault → Yields DealRefused result
+  pub deal_refused : (job : Job) (rules : RuleParts) (bytes : List ℕ) (fault : DealFault)
+      → GivesRules shelf words job rules
+      → IsTrue (takes_deal job) → Gives shelf (deal_name words) bytes → position_of rules bytes ≡ Err fault
+      → Yields DealRefused result
   pub seed_refused : (job : Job) (rules : RuleParts) (seed : ℕ) (fault : SeedFault) → GivesRules shelf words job rules
       → seed_of job ≡ Some seed → seed_fault rules ≡ Some fault → Yields DealRefused result
-  pub bad_line : (rules : RuleParts) (board : Board) (bytes : List ℕ) (fault : LineFault) → GivesDeal shelf words job.Replay rules board
+  pub bad_line : (rules : RuleParts) (board : Board) (bytes : List ℕ) (fault : LineFault)
+      → GivesDeal shelf words job.Replay rules board
       → Gives shelf (line_name words) bytes → line_of bytes ≡ Err fault → Yields LineRefused result
-  pub no_win : (rules : RuleParts) (board : Board) (bytes : List ℕ) (moves : List Move) → GivesDeal shelf words job.Replay rules board
-      → Gives shelf (line_name words) bytes → line_of bytes ≡ Ok moves → (¬ IsReplayed rules board moves replayed.Wins) → Yields LineRefused result
-  pub win : (rules : RuleParts) (board : Board) (bytes : List ℕ) (moves : List Move) → GivesDeal shelf words job.Replay rules board
-      → Gives shelf (line_name words) bytes → line_of bytes ≡ Ok moves → IsReplayed rules board moves replayed.Wins → Yields Done result
-  pub solved : (asked : Asked) (rules : RuleParts) (board : Board) → GivesDeal shelf words (job_asked asked) rules board → Yields Done result
+  pub no_win : (rules : RuleParts) (board : Board) (bytes : List ℕ) (moves : List Move)
+      → GivesDeal shelf words job.Replay rules board
+      → Gives shelf (line_name words) bytes → line_of bytes ≡ Ok moves → (¬ IsReplayed rules board moves replayed.Wins)
+      → Yields LineRefused result
+  pub win : (rules : RuleParts) (board : Board) (bytes : List ℕ) (moves : List Move)
+      → GivesDeal shelf words job.Replay rules board
+      → Gives shelf (line_name words) bytes → line_of bytes ≡ Ok moves → IsReplayed rules board moves replayed.Wins
+      → Yields Done result
+  pub solved : (asked : Asked) (rules : RuleParts) (board : Board) → GivesDeal shelf words (job_asked asked) rules board
+      → Yields Done result
   -- a seed is solved, or its deal is printed
   pub dealt : (job : Job) (rules : RuleParts) (seed : ℕ) → GivesRules shelf words job rules → seed_of job ≡ Some seed
       → seed_fault rules ≡ None → Yields Done result

@@ -1,5 +1,6 @@
 -- Each status and text that the program may answer, with its cause in the words and in the files.
-use Rattle.std.specs.Prelude.{ℕ, ◌≡◌, ◌⊎◌, min, IsTrue, Bool, true, false, List, [], length, slice_index_or, Option, Some, None, Ok, Err}
+use Rattle.std.specs.Prelude.{ℕ, ◌≡◌, ◌⊎◌, min, IsTrue, Bool, true, false, List, [], length, slice_index_or, Option}
+use Rattle.std.specs.Prelude.{Some, None, Ok, Err}
 use Rattle.outside_io.specs.Faults.{Rose}
 use Rattle.outside_io.specs.Shelf.{File, HasBytes}
 use Rattle.game_rules.specs.declared.RuleParts.{RuleParts}
@@ -33,7 +34,8 @@ use Rattle.solve_job.specs.Verdicts.{IsVerdict, IsDecided, IsSmall}
 use Rattle.patience.specs.declared.asked.Asked.{Asked}
 use Rattle.patience.specs.declared.report.FileRole.TheVariants as role
 use Rattle.patience.specs.declared.status.Status.{Status}
-use Rattle.patience.specs.declared.status.Status.TheVariants.{Done, Usage, ShelfFailed, RulesRefused, DealRefused, LineRefused, SinkFailed, Memory}
+use Rattle.patience.specs.declared.status.Status.TheVariants.{Done, Usage, ShelfFailed, RulesRefused, DealRefused}
+use Rattle.patience.specs.declared.status.Status.TheVariants.{LineRefused, SinkFailed, Memory}
 use Rattle.patience.specs.Asked.{job_asked, limits_asked}
 use Rattle.patience.specs.Texts.{line, failed_text, words_text, refused_text, ends_short_text, illegal_text, wins_text}
 
@@ -83,7 +85,8 @@ pub record HasRules (files : Option (List File)) (words : List (List ℕ)) (job 
   pub accepted : rules_of bytes ≡ Ok rules
 
 -- the deal file gives this board besides
-pub record HasDeal (files : Option (List File)) (words : List (List ℕ)) (job : Job) (rules : RuleParts) (board : Board) : Type 0 where
+pub record HasDeal (files : Option (List File)) (words : List (List ℕ)) (job : Job) (rules : RuleParts)
+    (board : Board) : Type 0 where
   pub has_rules : HasRules files words job rules
   pub takes : IsTrue (takes_deal job)
   pub bytes : List ℕ
@@ -91,7 +94,8 @@ pub record HasDeal (files : Option (List File)) (words : List (List ℕ)) (job :
   pub accepted : position_of rules bytes ≡ Ok board
 
 -- the job's seed deals this board under the rules
-pub record HasDealt (files : Option (List File)) (words : List (List ℕ)) (job : Job) (rules : RuleParts) (board : Board) : Type 0 where
+pub record HasDealt (files : Option (List File)) (words : List (List ℕ)) (job : Job) (rules : RuleParts)
+    (board : Board) : Type 0 where
   pub has_rules : HasRules files words job rules
   pub seed : ℕ
   pub given : seed_of job ≡ Some seed
@@ -103,7 +107,8 @@ abbrev pub HasStart : Option (List File) → List (List ℕ) → Job → RulePar
 HasStart files words job rules board = HasDeal files words job rules board ⊎ HasDealt files words job rules board
 
 -- the line file gives these moves besides
-pub record HasLine (files : Option (List File)) (words : List (List ℕ)) (rules : RuleParts) (board : Board) (moves : List Move) : Type 0 where
+pub record HasLine (files : Option (List File)) (words : List (List ℕ)) (rules : RuleParts) (board : Board)
+    (moves : List Move) : Type 0 where
   pub has_deal : HasDeal files words job.Replay rules board
   pub bytes : List ℕ
   pub told : HasBytes files (line_name words) bytes

@@ -49,10 +49,12 @@ PrintsWin rules start moves text = IsReplayed rules start moves replayed.Wins ×
 abbrev pub PrintsNoWin : RuleParts → Board → List Move → List ℕ → Type 0
 PrintsNoWin rules start moves text =
     (IsReplayed rules start moves replayed.EndsShort × (text ≡ refused_text role.Line ends_short_text))
-    ⊎ ((at : ℕ) × IsReplayed rules start moves (replayed.Illegal at) × (text ≡ refused_text role.Line (illegal_text at)))
+    ⊎ ((at : ℕ) × IsReplayed rules start moves (replayed.Illegal at)
+    × (text ≡ refused_text role.Line (illegal_text at)))
 
 -- how each job ends that is given accepted files and an accepted seed
-pub record IsComplete (shelf : Shelved) (words : List (List ℕ)) (old new : Option (List ℕ)) (result : Status) : Type 0 where
+pub record IsComplete (shelf : Shelved) (words : List (List ℕ)) (old new : Option (List ℕ))
+    (result : Status) : Type 0 where
   pub solves : (asked : Asked) (rules : RuleParts) (board : Board) → GivesDeal shelf words (job_asked asked) rules board
       → Finishes (PrintsSolution rules board asked) old new result
   pub solves_seed : (asked : Asked) (rules : RuleParts) (seed : ℕ) → GivesRules shelf words (job_asked asked) rules
@@ -62,6 +64,7 @@ pub record IsComplete (shelf : Shelved) (words : List (List ℕ)) (old new : Opt
       → Finishes (λ text. text ≡ line (position_text rules (seed_board rules seed))) old new result
   pub spells : (rules : RuleParts) → GivesRules shelf words job.Rules rules
       → Finishes (λ text. text ≡ line (rules_text rules)) old new result
-  pub replays : (rules : RuleParts) (board : Board) (bytes : List ℕ) (moves : List Move) → GivesDeal shelf words job.Replay rules board
+  pub replays : (rules : RuleParts) (board : Board) (bytes : List ℕ) (moves : List Move)
+      → GivesDeal shelf words job.Replay rules board
       → Gives shelf (line_name words) bytes → line_of bytes ≡ Ok moves
       → Judges (PrintsWin rules board moves) (PrintsNoWin rules board moves) old new result

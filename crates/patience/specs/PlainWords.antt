@@ -15,7 +15,8 @@ use Rattle.line_printer.specs.declared.verdict.Verdict.TheVariants as verdict
 use Rattle.line_printer.specs.VerdictText.{output_of}
 use Rattle.patience.specs.declared.report.FileRole.TheVariants as role
 use Rattle.patience.specs.declared.status.Status.{Status}
-use Rattle.patience.specs.declared.status.Status.TheVariants.{Done, Usage, ShelfFailed, RulesRefused, DealRefused, LineRefused, SinkFailed, Memory}
+use Rattle.patience.specs.declared.status.Status.TheVariants.{Done, Usage, ShelfFailed, RulesRefused, DealRefused}
+use Rattle.patience.specs.declared.status.Status.TheVariants.{LineRefused, SinkFailed, Memory}
 use Rattle.patience.specs.Texts.{failed_text, refused_text}
 
 -- what a verdict says of a start: this line wins, no line at all wins, or so many nodes were spent

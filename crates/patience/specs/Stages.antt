@@ -34,19 +34,23 @@ IsFailure file before after status text = (status ≡ ShelfFailed) × (text ≡ 
 -- the rules file has the printed fault
 abbrev pub RefusesRules : List ℕ → Status → List ℕ → Type 0
 RefusesRules bytes status text =
-    (fault : RulesFault) × (rules_of bytes ≡ Err fault) × (status ≡ RulesRefused) × (text ≡ refused_text role.Rules (rules_fault_text fault))
+    (fault : RulesFault) × (rules_of bytes ≡ Err fault) × (status ≡ RulesRefused)
+    × (text ≡ refused_text role.Rules (rules_fault_text fault))
 
 -- the deal file has the printed fault
 abbrev pub RefusesDeal : RuleParts → List ℕ → Status → List ℕ → Type 0
 RefusesDeal rules bytes status text =
-    (fault : DealFault) × (position_of rules bytes ≡ Err fault) × (status ≡ DealRefused) × (text ≡ refused_text role.Deal (deal_fault_text fault))
+    (fault : DealFault) × (position_of rules bytes ≡ Err fault) × (status ≡ DealRefused)
+    × (text ≡ refused_text role.Deal (deal_fault_text fault))
 
 -- no seed deals a board, and the fault is the printed one
 abbrev pub RefusesSeed : RuleParts → Status → List ℕ → Type 0
 RefusesSeed rules status text =
-    (fault : SeedFault) × (seed_fault rules ≡ Some fault) × (status ≡ DealRefused) × (text ≡ refused_text role.Deal (seed_fault_text fault))
+    (fault : SeedFault) × (seed_fault rules ≡ Some fault) × (status ≡ DealRefused)
+    × (text ≡ refused_text role.Deal (seed_fault_text fault))
 
 -- the line file has the printed fault
 abbrev pub RefusesLine : List ℕ → Status → List ℕ → Type 0
 RefusesLine bytes status text =
-    (fault : LineFault) × (line_of bytes ≡ Err fault) × (status ≡ LineRefused) × (text ≡ refused_text role.Line (line_fault_text fault))
+    (fault : LineFault) × (line_of bytes ≡ Err fault) × (status ≡ LineRefused)
+    × (text ≡ refused_text role.Line (line_fault_text fault))

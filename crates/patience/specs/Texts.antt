@@ -4,7 +4,8 @@ use Rattle.std.specs.Option.{option_map_or}
 use Rattle.patience.specs.declared.report.FileRole.{FileRole}
 use Rattle.patience.specs.declared.report.FileRole.TheVariants as role
 use Rattle.patience.specs.declared.status.Status.{Status}
-use Rattle.patience.specs.declared.status.Status.TheVariants.{Done, Usage, ShelfFailed, RulesRefused, DealRefused, LineRefused, SinkFailed, Memory}
+use Rattle.patience.specs.declared.status.Status.TheVariants.{Done, Usage, ShelfFailed, RulesRefused, DealRefused}
+use Rattle.patience.specs.declared.status.Status.TheVariants.{LineRefused, SinkFailed, Memory}
 
 -- the exit status of the program
 abbrev pub status_number : Status → ℕ

@@ -1,4 +1,5 @@
-//! Files and sinks that fail, bytes that are no rules, and a line that is longer than the cache: one table, with each memo.
+//! Files and sinks that fail, bytes that are no rules, and a line that is longer than the cache: one table, with each
+//! memo.
 use crate::status::Status;
 use crate::tests::{DEAL, RULES, WON, filled, run, shelf_of};
 use outside_io::MemorySink;

@@ -66,7 +66,8 @@ fn fetch_file<S: Shelf>(
 
 /// What a fault of the rules file is answered by.
 fn stop_of_rules_fault(alloc: Global, fault: RulesFault) -> Stop
-    ensures { Stops (λ status text. (fault ≢ RulesFault.Memory) × (status ≡ Status.RulesRefused) × (text ≡ refused_text FileRole.Rules (rules_fault_text fault))) result }
+    ensures { Stops (λ status text. (fault ≢ RulesFault.Memory) × (status ≡ Status.RulesRefused)
+        × (text ≡ refused_text FileRole.Rules (rules_fault_text fault))) result }
 {
     match fault {
         RulesFault::Memory => Stop::NoMemory,
@@ -131,7 +132,8 @@ pub fn fetch_rules<S: Shelf>(
     ensures never_falls { (name : List ℕ) → S.faults shelf.old name ≤ S.faults shelf.new name }
     ensures accepted { IfOk result (HasRules (S.files shelf.old) (texts words.now) job) }
     ensures stopped { IfErr result (Stops (Explains
-        (record { files = S.files shelf.old; before = S.faults shelf.old; after = S.faults shelf.new }) (texts words.now))) }
+        (record { files = S.files shelf.old; before = S.faults shelf.old; after = S.faults shelf.new })
+        (texts words.now))) }
 {
     let name = word_at(words, 1);
     let bytes = fetch_file(alloc, shelf, name, MAX_FILE_LENGTH, FileRole::Rules)?;
@@ -153,7 +155,8 @@ pub fn fetch_deal<S: Shelf>(
     ensures accepted { IfOk result (HasDeal (S.files shelf.old) (texts words.now) job rules.now) }
     ensures belongs { IfOk result (Belongs rules.now) }
     ensures stopped { IfErr result (Stops (Explains
-        (record { files = S.files shelf.old; before = S.faults shelf.old; after = S.faults shelf.new }) (texts words.now))) }
+        (record { files = S.files shelf.old; before = S.faults shelf.old; after = S.faults shelf.new })
+        (texts words.now))) }
 {
     let name = word_at(words, 2);
     let bytes = fetch_file(alloc, shelf, name, MAX_FILE_LENGTH, FileRole::Deal)?;
@@ -173,7 +176,8 @@ pub fn fetch_line<S: Shelf>(
     ensures never_falls { (name : List ℕ) → S.faults shelf.old name ≤ S.faults shelf.new name }
     ensures accepted { IfOk result (HasLine (S.files shelf.old) (texts words.now) rules.now board.now) }
     ensures stopped { IfErr result (Stops (Explains
-        (record { files = S.files shelf.old; before = S.faults shelf.old; after = S.faults shelf.new }) (texts words.now))) }
+        (record { files = S.files shelf.old; before = S.faults shelf.old; after = S.faults shelf.new })
+        (texts words.now))) }
 {
     // The contract alone speaks of the rules and the board.
     let _ = rules;

@@ -33,9 +33,11 @@ fn solve_deal<S: Shelf>(
     ensures files { S.files shelf.new ≡ S.files shelf.old }
     ensures never_falls { (name : List ℕ) → S.faults shelf.old name ≤ S.faults shelf.new name }
     ensures done { IfOk result (λ report. Explains
-        (record { files = S.files shelf.old; before = S.faults shelf.old; after = S.faults shelf.new }) (texts words.now) report.status report.text.items) }
+        (record { files = S.files shelf.old; before = S.faults shelf.old; after = S.faults shelf.new })
+        (texts words.now) report.status report.text.items) }
     ensures stopped { IfErr result (Stops (Explains
-        (record { files = S.files shelf.old; before = S.faults shelf.old; after = S.faults shelf.new }) (texts words.now))) }
+        (record { files = S.files shelf.old; before = S.faults shelf.old; after = S.faults shelf.new })
+        (texts words.now))) }
 {
     let rules = fetch_rules(alloc, words, asked.job(), shelf)?;
     let start = fetch_start(alloc, words, asked, &rules, shelf)?;
@@ -54,9 +56,11 @@ fn replay_line<S: Shelf>(alloc: Global, words: &[String], shelf: &mut S) -> Resu
     ensures files { S.files shelf.new ≡ S.files shelf.old }
     ensures never_falls { (name : List ℕ) → S.faults shelf.old name ≤ S.faults shelf.new name }
     ensures done { IfOk result (λ report. Explains
-        (record { files = S.files shelf.old; before = S.faults shelf.old; after = S.faults shelf.new }) (texts words.now) report.status report.text.items) }
+        (record { files = S.files shelf.old; before = S.faults shelf.old; after = S.faults shelf.new })
+        (texts words.now) report.status report.text.items) }
     ensures stopped { IfErr result (Stops (Explains
-        (record { files = S.files shelf.old; before = S.faults shelf.old; after = S.faults shelf.new }) (texts words.now))) }
+        (record { files = S.files shelf.old; before = S.faults shelf.old; after = S.faults shelf.new })
+        (texts words.now))) }
 {
     let rules = fetch_rules(alloc, words, Job::Replay, shelf)?;
     let start = fetch_deal(alloc, words, Job::Replay, &rules, shelf)?;
@@ -80,9 +84,11 @@ fn print_deal<S: Shelf>(
     ensures files { S.files shelf.new ≡ S.files shelf.old }
     ensures never_falls { (name : List ℕ) → S.faults shelf.old name ≤ S.faults shelf.new name }
     ensures done { IfOk result (λ report. Explains
-        (record { files = S.files shelf.old; before = S.faults shelf.old; after = S.faults shelf.new }) (texts words.now) report.status report.text.items) }
+        (record { files = S.files shelf.old; before = S.faults shelf.old; after = S.faults shelf.new })
+        (texts words.now) report.status report.text.items) }
     ensures stopped { IfErr result (Stops (Explains
-        (record { files = S.files shelf.old; before = S.faults shelf.old; after = S.faults shelf.new }) (texts words.now))) }
+        (record { files = S.files shelf.old; before = S.faults shelf.old; after = S.faults shelf.new })
+        (texts words.now))) }
 {
     let rules = fetch_rules(alloc, words, Job::Deal { seed }, shelf)?;
     let board = deal_seed(alloc, &rules, seed)?;
@@ -100,9 +106,11 @@ fn spell_rules<S: Shelf>(alloc: Global, words: &[String], shelf: &mut S) -> Resu
     ensures files { S.files shelf.new ≡ S.files shelf.old }
     ensures never_falls { (name : List ℕ) → S.faults shelf.old name ≤ S.faults shelf.new name }
     ensures done { IfOk result (λ report. Explains
-        (record { files = S.files shelf.old; before = S.faults shelf.old; after = S.faults shelf.new }) (texts words.now) report.status report.text.items) }
+        (record { files = S.files shelf.old; before = S.faults shelf.old; after = S.faults shelf.new })
+        (texts words.now) report.status report.text.items) }
     ensures stopped { IfErr result (Stops (Explains
-        (record { files = S.files shelf.old; before = S.faults shelf.old; after = S.faults shelf.new }) (texts words.now))) }
+        (record { files = S.files shelf.old; before = S.faults shelf.old; after = S.faults shelf.new })
+        (texts words.now))) }
 {
     let rules = fetch_rules(alloc, words, Job::Rules, shelf)?;
     let mut text = write_rules(alloc, &rules)?;
@@ -124,9 +132,11 @@ fn do_job<S: Shelf>(
     ensures files { S.files shelf.new ≡ S.files shelf.old }
     ensures never_falls { (name : List ℕ) → S.faults shelf.old name ≤ S.faults shelf.new name }
     ensures done { IfOk result (λ report. Explains
-        (record { files = S.files shelf.old; before = S.faults shelf.old; after = S.faults shelf.new }) (texts words.now) report.status report.text.items) }
+        (record { files = S.files shelf.old; before = S.faults shelf.old; after = S.faults shelf.new })
+        (texts words.now) report.status report.text.items) }
     ensures stopped { IfErr result (Stops (Explains
-        (record { files = S.files shelf.old; before = S.faults shelf.old; after = S.faults shelf.new }) (texts words.now))) }
+        (record { files = S.files shelf.old; before = S.faults shelf.old; after = S.faults shelf.new })
+        (texts words.now))) }
 {
     match job {
         Job::Solve {

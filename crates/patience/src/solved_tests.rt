@@ -1,5 +1,5 @@
-//! Small games of many kinds, one won and one lost of most, solved by the whole program with each memo. What is expected
-//! was worked out apart from it.
+//! Small games of many kinds, one won and one lost of most, solved by the whole program with each memo. What is
+//! expected was worked out apart from it.
 use crate::status::Status;
 use crate::tests::{print, shelf_of};
 use std::alloc::Global;

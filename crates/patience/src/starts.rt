@@ -48,7 +48,8 @@ pub fn fetch_start<S: Shelf>(
     ensures accepted { IfOk result (HasStart (S.files shelf.old) (texts words.now) (job_asked asked) rules.now) }
     ensures belongs { IfOk result (Belongs rules.now) }
     ensures stopped { IfErr result (Stops (Explains
-        (record { files = S.files shelf.old; before = S.faults shelf.old; after = S.faults shelf.new }) (texts words.now))) }
+        (record { files = S.files shelf.old; before = S.faults shelf.old; after = S.faults shelf.new })
+        (texts words.now))) }
 {
     match asked.source {
         Source::File => fetch_deal(alloc, words, asked.job(), rules, shelf),

@@ -18,7 +18,8 @@ use std::alloc::{AllocError, Global};
 
 /// The words name no job.
 pub fn usage(alloc: Global, fault: WordFault) -> Result<Report, AllocError>
-    ensures { IfOk result (λ report. (report.status ≡ Status.Usage) × (report.text.items ≡ words_text (word_fault_text fault))) }
+    ensures { IfOk result (λ report. (report.status ≡ Status.Usage)
+        × (report.text.items ≡ words_text (word_fault_text fault))) }
 {
     let text = format!(in alloc; "refused words {fault}\n")?;
     Ok(Report {
@@ -40,7 +41,8 @@ pub fn failed(alloc: Global, file: FileRole) -> Result<Report, AllocError>
 
 /// The rules file has a fault.
 pub fn rules_refused(alloc: Global, fault: RulesFault) -> Result<Report, AllocError>
-    ensures { IfOk result (λ report. (report.status ≡ Status.RulesRefused) × (report.text.items ≡ refused_text FileRole.Rules (rules_fault_text fault))) }
+    ensures { IfOk result (λ report. (report.status ≡ Status.RulesRefused)
+        × (report.text.items ≡ refused_text FileRole.Rules (rules_fault_text fault))) }
 {
     let text = format!(in alloc; "refused rules {fault}\n")?;
     Ok(Report {
@@ -51,7 +53,8 @@ pub fn rules_refused(alloc: Global, fault: RulesFault) -> Result<Report, AllocEr
 
 /// The deal file has a fault.
 pub fn deal_refused(alloc: Global, fault: DealFault) -> Result<Report, AllocError>
-    ensures { IfOk result (λ report. (report.status ≡ Status.DealRefused) × (report.text.items ≡ refused_text FileRole.Deal (deal_fault_text fault))) }
+    ensures { IfOk result (λ report. (report.status ≡ Status.DealRefused)
+        × (report.text.items ≡ refused_text FileRole.Deal (deal_fault_text fault))) }
 {
     let text = format!(in alloc; "refused deal {fault}\n")?;
     Ok(Report {
@@ -62,7 +65,8 @@ pub fn deal_refused(alloc: Global, fault: DealFault) -> Result<Report, AllocErro
 
 /// No seed deals a board under the rules.
 pub fn seed_refused(alloc: Global, fault: SeedFault) -> Result<Report, AllocError>
-    ensures { IfOk result (λ report. (report.status ≡ Status.DealRefused) × (report.text.items ≡ refused_text FileRole.Deal (seed_fault_text fault))) }
+    ensures { IfOk result (λ report. (report.status ≡ Status.DealRefused)
+        × (report.text.items ≡ refused_text FileRole.Deal (seed_fault_text fault))) }
 {
     let text = format!(in alloc; "refused deal {fault}\n")?;
     Ok(Report {
@@ -73,7 +77,8 @@ pub fn seed_refused(alloc: Global, fault: SeedFault) -> Result<Report, AllocErro
 
 /// The line file has a fault.
 pub fn line_refused(alloc: Global, fault: LineFault) -> Result<Report, AllocError>
-    ensures { IfOk result (λ report. (report.status ≡ Status.LineRefused) × (report.text.items ≡ refused_text FileRole.Line (line_fault_text fault))) }
+    ensures { IfOk result (λ report. (report.status ≡ Status.LineRefused)
+        × (report.text.items ≡ refused_text FileRole.Line (line_fault_text fault))) }
 {
     let text = format!(in alloc; "refused line {fault}\n")?;
     Ok(Report {
@@ -84,7 +89,8 @@ pub fn line_refused(alloc: Global, fault: LineFault) -> Result<Report, AllocErro
 
 /// The move at the place is the first that is not legal.
 pub fn illegal(alloc: Global, at: u64) -> Result<Report, AllocError>
-    ensures { IfOk result (λ report. (report.status ≡ Status.LineRefused) × (report.text.items ≡ refused_text FileRole.Line (illegal_text at))) }
+    ensures { IfOk result (λ report. (report.status ≡ Status.LineRefused)
+        × (report.text.items ≡ refused_text FileRole.Line (illegal_text at))) }
 {
     let text = format!(in alloc; "refused line illegal {at}\n")?;
     Ok(Report {
@@ -95,7 +101,8 @@ pub fn illegal(alloc: Global, at: u64) -> Result<Report, AllocError>
 
 /// The moves are legal and end before a won board.
 pub fn ends_short(alloc: Global) -> Result<Report, AllocError>
-    ensures { IfOk result (λ report. (report.status ≡ Status.LineRefused) × (report.text.items ≡ refused_text FileRole.Line ends_short_text)) }
+    ensures { IfOk result (λ report. (report.status ≡ Status.LineRefused)
+        × (report.text.items ≡ refused_text FileRole.Line ends_short_text)) }
 {
     let text = b"refused line ends-short\n".to_vec(alloc)?;
     Ok(Report {

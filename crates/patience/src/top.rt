@@ -16,15 +16,15 @@ use std::alloc::Global;
 
 /// Does the job that the words name, with the files of the shelf, and writes its text to the sink.
 ///
-/// For every accepted rules file, deal, cache size and node budget, it prints `winnable` with a line of legal moves from the
-/// deal to a won board under the unreduced rules, `unwinnable` only if no such line of any length exists, and `undecided`
-/// only after the stated number of nodes, each an expansion along a different line that repeats no board. The clauses
-/// `whole` and `exact` say so, with `IsSolved` and `IsVerdict`.
+/// For every accepted rules file, deal, cache size and node budget, it prints `winnable` with a line of legal moves
+/// from the deal to a won board under the unreduced rules, `unwinnable` only if no such line of any length exists, and
+/// `undecided` only after the stated number of nodes, each an expansion along a different line that repeats no board.
+/// The clauses `whole` and `exact` say so, with `IsSolved` and `IsVerdict`.
 ///
 /// The words are those after the program's name. The text, the job's own or that of a refusal, is built whole and then
 /// put line by line. If a put fails none follows, the status is `SinkFailed`, and a prefix of the text was written.
-/// `Memory` comes before the first put alone, and then nothing was written. The words are looked at first, then the rules,
-/// the deal or the seed, and the line, each fetched and read before the next, and the first fault is the answer.
+/// `Memory` comes before the first put alone, and then nothing was written. The words are looked at first, then the
+/// rules, the deal or the seed, and the line, each fetched and read before the next, and the first fault is the answer.
 pub fn patience<S: Shelf, K: Sink>(
     alloc: Global,
     words: &[String],
@@ -35,22 +35,26 @@ pub fn patience<S: Shelf, K: Sink>(
 
     // The whole text was written and nothing else, and it has its cause.
     ensures whole { WritesWhole
-        (Explains (record { files = S.files shelf.old; before = S.faults shelf.old; after = S.faults shelf.new }) (texts words.now))
+        (Explains (record { files = S.files shelf.old; before = S.faults shelf.old; after = S.faults shelf.new })
+        (texts words.now))
         (K.written sink.old) (K.written sink.new) result }
 
     // Each answer to words and bytes is given exactly where it is due, unless the sink or memory failed.
     ensures exact { IsDue
-        (record { files = S.files shelf.old; before = S.faults shelf.old; after = S.faults shelf.new }) (texts words.now) result }
+        (record { files = S.files shelf.old; before = S.faults shelf.old; after = S.faults shelf.new })
+        (texts words.now) result }
 
     // If the files and the seed are accepted and no fault rose, the job is done or there is no memory.
     ensures complete { ¬ Rose (K.faults sink.old) (K.faults sink.new) → IsComplete
-        (record { files = S.files shelf.old; before = S.faults shelf.old; after = S.faults shelf.new }) (texts words.now)
+        (record { files = S.files shelf.old; before = S.faults shelf.old; after = S.faults shelf.new })
+        (texts words.now)
         (K.written sink.old) (K.written sink.new) result }
 
     // Where the sink failed, a prefix of such a text was written.
     ensures sink_failed { result ≡ Status.SinkFailed → Rose (K.faults sink.old) (K.faults sink.new) }
     ensures part { result ≡ Status.SinkFailed → WritesPart
-        (Explains (record { files = S.files shelf.old; before = S.faults shelf.old; after = S.faults shelf.new }) (texts words.now))
+        (Explains (record { files = S.files shelf.old; before = S.faults shelf.old; after = S.faults shelf.new })
+        (texts words.now))
         (K.written sink.old) (K.written sink.new) }
 
     // Without memory nothing was written.

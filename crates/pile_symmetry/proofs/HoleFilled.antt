@@ -1,5 +1,6 @@
 -- The cards that stand nowhere else are those below the top of the hole.
-use Rattle.std.proofs.Common.{◌≡◌, ℕ, zero, suc, ◌+◌, ◌-◌, ◌*◌, Bool, true, false, ◌||◌, List, [], ◌∷◌, ◌++◌, map, take, length, get_or, replicate, refl, ap, ap₂, sym, ◌∙◌, subst, arith, length-append}
+use Rattle.std.proofs.Common.{◌≡◌, ℕ, zero, suc, ◌+◌, ◌-◌, ◌*◌, Bool, true, false, ◌||◌, List, [], ◌∷◌, ◌++◌, map, take}
+use Rattle.std.proofs.Common.{length, get_or, replicate, refl, ap, ap₂, sym, ◌∙◌, subst, arith, length-append}
 use Rattle.std.specs.Prelude.{IsTrue, Option, Some, None, slice_get, if◌then◌else◌}
 use Rattle.std.specs.Option.{option_to_list}
 use Rattle.std.specs.List.{All, flat_map, range_with_len}
@@ -20,7 +21,8 @@ use Rattle.game_rules.specs.Rules.{is_foundation_goal, is_hole_goal, is_sequence
 use Rattle.game_rules.specs.Conflicts.{HasLimits}
 use Rattle.game_rules.specs.Board.{Board, Pile, top_of, below_top}
 use Rattle.game_rules.specs.Play.{is_empty}
-use Rattle.game_rules.specs.Belonging.{Belongs, copies_of, copies_in, copies_in_piles, copies_at_home, copies_on, copies_due}
+use Rattle.game_rules.specs.Belonging.{Belongs, copies_of, copies_in, copies_in_piles, copies_at_home}
+use Rattle.game_rules.specs.Belonging.{copies_on, copies_due}
 use Rattle.game_rules.specs.Position.{HasRanks, parts_of, card_numbered, deck_size}
 use Rattle.game_rules.proofs.ListFacts.{drop_last}
 use Rattle.game_rules.proofs.PositionFacts.{deck_size-is}
@@ -41,19 +43,22 @@ use Rattle.pile_symmetry.proofs.Counted.{counted-bytes, counted-good, counted-so
 
 hole-cut : (cards : List Card) → below_top 1 cards ++ option_to_list (top_of cards) ≡ cards
 hole-cut cards =
-    sym (ap (λ (top : List Card). below_top 1 cards ++ top) (drop_last cards)) ∙ take-append-drop (length cards - 1) cards
+    sym (ap (λ (top : List Card). below_top 1 cards ++ top) (drop_last cards))
+    ∙ take-append-drop (length cards - 1) cards
 
 top-back_if : (t : Bool) (cards : List Card) → All IsGood cards → IsTrue (t || is_empty cards)
     → top_in (if t then length cards ∷ entry_byte (top_of cards) ∷ [] else []) ≡ option_to_list (top_of cards)
 top-back_if true cards good h = ap option_to_list (entry-back (top_of cards) (top-good cards good))
 top-back_if false cards good h = sym (ap (λ (cs : List Card). option_to_list (top_of cs)) (empty-nil cards h))
 
-top-back : (rules : RuleParts) (board : Board) → HasRanks board → Belongs rules board → top_in (hole_bytes rules board) ≡ option_to_list (top_of board.hole)
+top-back : (rules : RuleParts) (board : Board) → HasRanks board → Belongs rules board
+    → top_in (hole_bytes rules board) ≡ option_to_list (top_of board.hole)
 top-back rules board ranks belongs = top-back_if (is_hole_goal rules.goal) board.hole ranks.hole belongs.hole
 
 -- ---- how many copies stand nowhere
 
-lists-counted : (card : Card) (piles : List Pile) → copies_in_lists card (map (λ pile. pile.cards) piles) ≡ copies_in_piles card piles
+lists-counted : (card : Card) (piles : List Pile)
+    → copies_in_lists card (map (λ pile. pile.cards) piles) ≡ copies_in_piles card piles
 lists-counted card [] = refl
 lists-counted card (pile ∷ piles) =
     let left = sum_by-cons (λ (cards : List Card). copies_of card cards) pile.cards (map (λ p. p.cards) piles) in
@@ -75,32 +80,39 @@ none_of : {A : Type 0} (t : Bool) (n : ℕ) (xs : List A) → t ≡ false → le
 none_of true n xs e h = cc
 none_of false n xs e h = nil_from_length xs h
 
-taken_off : (due piles cells reserve stock waste top under : ℕ) → piles + cells + reserve + stock + waste + (under + top) ≡ due
+taken_off : (due piles cells reserve stock waste top under : ℕ)
+    → piles + cells + reserve + stock + waste + (under + top) ≡ due
     → due - piles - cells - reserve - stock - waste - top ≡ under
 taken_off due piles cells reserve stock waste top under h = omega (arith, h)
 
 -- in a game with a hole
-lacking-is : (rules : RuleParts) (board : Board) (card : Card) → HasLimits rules → HasRanks board → Belongs rules board → is_hole_goal rules.goal ≡ true
-    → lacking rules (parts_of rules (in_key_order rules board (option_to_list (top_of board.hole)))) card ≡ copies_of card (below_top 1 board.hole)
+lacking-is : (rules : RuleParts) (board : Board) (card : Card) → HasLimits rules → HasRanks board → Belongs rules board
+    → is_hole_goal rules.goal ≡ true
+    → lacking rules (parts_of rules (in_key_order rules board (option_to_list (top_of board.hole)))) card
+    ≡ copies_of card (below_top 1 board.hole)
 lacking-is rules board card limits ranks belongs goal =
     let other : Board = in_key_order rules board board.hole in
     let top : List Card = option_to_list (top_of board.hole) in
     let same : Same rules board other = same-in_order rules board board.hole ranks belongs refl refl in
     let places : HasPlaces rules other = places-in_order rules board board.hole belongs in
     let own : HasPlaces rules board = record { foundations = belongs.foundations; slots = belongs.slots } in
-    let copies : copies_on rules board card ≡ copies_on rules other card = copies-from_same rules board other card limits own places same (IsPermutation-refl board.hole) in
+    let copies : copies_on rules board card ≡ copies_on rules other card = copies-from_same rules board other card
+    limits own places same (IsPermutation-refl board.hole) in
     let due : copies_on rules board card ≡ copies_due rules card = belongs.cards card in
     let home : copies_at_home rules card other.heights ≡ 0 =
-    ap (copies_at_home rules card) (none_of (is_foundation_goal rules.goal) (4 * rules.decks) other.heights (no_foundations rules.goal goal) places.foundations) in
+    ap (copies_at_home rules card) (none_of (is_foundation_goal rules.goal) (4 * rules.decks) other.heights
+    (no_foundations rules.goal goal) places.foundations) in
     let slots : copies_in card other.slots ≡ 0 =
-    ap (copies_in card) (none_of (is_sequence_goal rules.goal) (4 * rules.decks * rules.max_rank) other.slots (no_sequences rules.goal goal) places.slots) in
+    ap (copies_in card) (none_of (is_sequence_goal rules.goal) (4 * rules.decks * rules.max_rank) other.slots
+    (no_sequences rules.goal goal) places.slots) in
     let lists = lists-counted card other.piles in
     let cut : copies_of card board.hole ≡ copies_of card (below_top 1 board.hole) + copies_of card top =
     sym (ap (copies_of card) (hole-cut board.hole)) ∙ copies-append card (below_top 1 board.hole) top in
     taken_off (copies_due rules card) _ _ _ _ _ _ _ (omega (arith, copies, due, home, slots, lists, cut))
 
 counted-same : (f g : ℕ → ℕ) → ((n : ℕ) → f n ≡ g n) → (a n : ℕ)
-    → flat_map (λ k. replicate (f k) (card_numbered k)) (range_with_len a n) ≡ flat_map (λ k. replicate (g k) (card_numbered k)) (range_with_len a n)
+    → flat_map (λ k. replicate (f k) (card_numbered k)) (range_with_len a n) ≡ flat_map
+    (λ k. replicate (g k) (card_numbered k)) (range_with_len a n)
 counted-same f g same a zero = refl
 counted-same f g same a (suc n) =
     ap₂ (λ (k : ℕ) (rest : List Card). replicate k (card_numbered a) ++ rest) (same a) (counted-same f g same (a + 1) n)
@@ -111,8 +123,10 @@ record Filled (rules : RuleParts) (board : Board) (cards : List Card) : Type 0 w
   ascending : card_bytes cards ≡ sorted_bytes (card_bytes (below_top 1 board.hole))
   permuted : IsPermutation (below_top 1 board.hole) cards
 
-lacking-filled : (rules : RuleParts) (board : Board) → HasLimits rules → HasRanks board → Belongs rules board → is_hole_goal rules.goal ≡ true
-    → Filled rules board (lacking_cards rules (parts_of rules (in_key_order rules board (option_to_list (top_of board.hole)))))
+lacking-filled : (rules : RuleParts) (board : Board) → HasLimits rules → HasRanks board → Belongs rules board
+    → is_hole_goal rules.goal ≡ true
+    → Filled rules board
+    (lacking_cards rules (parts_of rules (in_key_order rules board (option_to_list (top_of board.hole)))))
 lacking-filled rules board limits ranks belongs goal =
     let parts : BoardParts = parts_of rules (in_key_order rules board (option_to_list (top_of board.hole))) in
     let under : List Card = below_top 1 board.hole in
@@ -123,10 +137,13 @@ lacking-filled rules board limits ranks belongs goal =
     let counted : lacking_cards rules parts ≡ cards =
     counted-same f g (λ n. lacking-is rules board (card_numbered n) limits ranks belongs goal) 0 deck_size
     ∙ ap (λ (n : ℕ). flat_map (λ k. replicate (g k) (card_numbered k)) (range_with_len 0 n)) deck_size-is in
-    let bytes : card_bytes cards ≡ sorted_bytes (card_bytes under) = counted-bytes g 0 52 (omega arith) ∙ counted-sorted under good in
+    let bytes : card_bytes cards ≡ sorted_bytes (card_bytes under) = counted-bytes g 0 52 (omega arith)
+    ∙ counted-sorted under good in
     let moved : IsPermutation (card_bytes under) (card_bytes cards) =
-    subst (λ (xs : List ℕ). IsPermutation (card_bytes under) xs) (sym bytes) (sorted-permutation nat_cmp (card_bytes under)) in
-    let permuted : IsPermutation under cards = permutation-from_bytes card_byte card_of_byte IsGood card-back under cards good (counted-good g 0 52) moved in
+    subst (λ (xs : List ℕ). IsPermutation (card_bytes under) xs) (sym bytes)
+    (sorted-permutation nat_cmp (card_bytes under)) in
+    let permuted : IsPermutation under cards = permutation-from_bytes card_byte card_of_byte IsGood card-back under
+    cards good (counted-good g 0 52) moved in
     subst (λ (cs : List Card). Filled rules board cs) (sym counted) (record { ascending = bytes; permuted = permuted })
 
 -- ---- the hole
@@ -171,8 +188,10 @@ pub record HoleBack (rules : RuleParts) (board : Board) (hole : List Card) : Typ
   pub top : top_of board.hole ≡ top_of hole
   pub ascending : card_bytes (below_top 1 hole) ≡ sorted_bytes (card_bytes (below_top 1 board.hole))
 
-hole-back_if : (rules : RuleParts) (board : Board) (t : Bool) (cards : List Card) → (t ≡ true → Filled rules board cards) → IsTrue (t || is_empty board.hole)
-    → HoleBack rules board (if t then cards ++ option_to_list (top_of board.hole) else option_to_list (top_of board.hole))
+hole-back_if : (rules : RuleParts) (board : Board) (t : Bool) (cards : List Card)
+    → (t ≡ true → Filled rules board cards) → IsTrue (t || is_empty board.hole)
+    → HoleBack rules board
+    (if t then cards ++ option_to_list (top_of board.hole) else option_to_list (top_of board.hole))
 hole-back_if rules board true cards filled h =
     let under : List Card = below_top 1 board.hole in
     let top : List Card = option_to_list (top_of board.hole) in
@@ -182,7 +201,8 @@ hole-back_if rules board true cards filled h =
     record {
       permuted = subst (λ (cs : List Card). IsPermutation cs (cards ++ top)) (hole-cut board.hole) moved;
       top = sym kept;
-      ascending = ap card_bytes (below-kept (top_of board.hole) under cards (no_top board.hole) f.permuted) ∙ f.ascending;
+      ascending = ap card_bytes
+          (below-kept (top_of board.hole) under cards (no_top board.hole) f.permuted) ∙ f.ascending;
     }
 hole-back_if rules board false cards filled h =
     let none : board.hole ≡ [] = empty-nil board.hole h in
@@ -192,6 +212,8 @@ hole-back_if rules board false cards filled h =
 pub hole-back : (rules : RuleParts) (board : Board) → HasLimits rules → HasRanks board → Belongs rules board
     → HoleBack rules board (hole_in rules (parts_of rules (in_key_order rules board (top_in (hole_bytes rules board)))))
 hole-back rules board limits ranks belongs =
-    subst (λ (top : List Card). HoleBack rules board (hole_in rules (parts_of rules (in_key_order rules board top)))) (sym (top-back rules board ranks belongs))
-    (hole-back_if rules board (is_hole_goal rules.goal) (lacking_cards rules (parts_of rules (in_key_order rules board (option_to_list (top_of board.hole)))))
+    subst (λ (top : List Card). HoleBack rules board (hole_in rules (parts_of rules (in_key_order rules board top))))
+    (sym (top-back rules board ranks belongs))
+    (hole-back_if rules board (is_hole_goal rules.goal)
+    (lacking_cards rules (parts_of rules (in_key_order rules board (option_to_list (top_of board.hole)))))
     (lacking-filled rules board limits ranks belongs) belongs.hole)

@@ -1,5 +1,6 @@
 -- A board that is read back from its key stands in the order of the key.
-use Rattle.std.proofs.Common.{◌≡◌, ℕ, zero, suc, ◌-◌, ◌*◌, ◌<◌, Bool, true, false, List, [], ◌∷◌, ◌++◌, map, length, get_or, replicate, refl, ap, ap₂, sym, ◌∙◌, arith, append-nil}
+use Rattle.std.proofs.Common.{◌≡◌, ℕ, zero, suc, ◌-◌, ◌*◌, ◌<◌, Bool, true, false, List, [], ◌∷◌, ◌++◌, map, length}
+use Rattle.std.proofs.Common.{get_or, replicate, refl, ap, ap₂, sym, ◌∙◌, arith, append-nil}
 use Rattle.std.specs.Prelude.{IsTrue, Option, None, is_some, nat_eq, if◌then◌else◌}
 use Rattle.std.specs.List.{All, list_all, concat, range_with_len}
 use Rattle.std.specs.Ordering.{nat_cmp}
@@ -16,10 +17,13 @@ use Rattle.game_rules.specs.Winning.{rows_of}
 use Rattle.game_rules.specs.Belonging.{Belongs}
 use Rattle.game_rules.specs.Position.{HasRanks, filled}
 use Rattle.same_boards.specs.Same.{keeps_pile_order, heights_of_suit}
-use Rattle.same_boards.specs.Keys.{sorted_bytes, sorted_lists, card_byte, card_bytes, cards_in, entry_byte, cell_bytes, pile_bytes, row_bytes}
+use Rattle.same_boards.specs.Keys.{sorted_bytes, sorted_lists, card_byte, card_bytes, cards_in, entry_byte, cell_bytes}
+use Rattle.same_boards.specs.Keys.{pile_bytes, row_bytes}
 use Rattle.same_boards.proofs.Sorting.{sorted-permutation}
-use Rattle.same_boards.proofs.KeyParts.{card_of_byte, entry_of_byte, pile_of_bytes, map-back, card-back, pile-back, row-back, IsGood, IsGoodEntry, IsGoodPile}
-use Rattle.same_boards.proofs.KeysSame.{some_card, filled as all-filled, good_cards_in, good_rows, IsGoodRow, all_heights, sorted_rows, sorted_rows-long, sorted_rows-size}
+use Rattle.same_boards.proofs.KeyParts.{card_of_byte, entry_of_byte, pile_of_bytes, map-back, card-back, pile-back}
+use Rattle.same_boards.proofs.KeyParts.{row-back, IsGood, IsGoodEntry, IsGoodPile}
+use Rattle.same_boards.proofs.KeysSame.{some_card, filled as all-filled, good_cards_in, good_rows, IsGoodRow}
+use Rattle.same_boards.proofs.KeysSame.{all_heights, sorted_rows, sorted_rows-long, sorted_rows-size}
 use Rattle.pile_symmetry.specs.Reading.{card_entry, height_in}
 use Rattle.pile_symmetry.specs.InOrder.{IsInKeyOrder}
 use Rattle.pile_symmetry.proofs.ReadBack.{in_key_order}
@@ -45,7 +49,8 @@ gaps-again : (n : ℕ) → map entry_byte (replicate n None) ≡ replicate n 0
 gaps-again zero = refl
 gaps-again (suc n) = ap (λ (xs : List ℕ). 0 ∷ xs) (gaps-again n)
 
-filled-again : (n : ℕ) (bytes : List ℕ) → All IsEntryByte bytes → map entry_byte (filled n None (map card_entry bytes)) ≡ filled n 0 bytes
+filled-again : (n : ℕ) (bytes : List ℕ) → All IsEntryByte bytes
+    → map entry_byte (filled n None (map card_entry bytes)) ≡ filled n 0 bytes
 filled-again n bytes all =
     map-append entry_byte (map card_entry bytes) (replicate (n - length (map card_entry bytes)) None)
     ∙ ap₂ (λ (xs ys : List ℕ). xs ++ ys) (held-again bytes all)
@@ -53,7 +58,8 @@ filled-again n bytes all =
 
 sorted_entry_bytes : (xs : List Card) → All IsGood xs → All IsEntryByte (sorted_bytes (card_bytes xs))
 sorted_entry_bytes xs good =
-    All-permutation IsEntryByte (card_bytes xs) (sorted_bytes (card_bytes xs)) (sorted-permutation nat_cmp (card_bytes xs)) (entry_bytes xs good)
+    All-permutation IsEntryByte (card_bytes xs) (sorted_bytes (card_bytes xs))
+    (sorted-permutation nat_cmp (card_bytes xs)) (entry_bytes xs good)
 
 whole-again : (n : ℕ) (bytes : List ℕ) → length bytes ≡ n → filled n 0 bytes ≡ bytes
 whole-again n bytes size =
@@ -62,14 +68,19 @@ whole-again n bytes size =
 
 reserve-again : (t : Bool) (n : ℕ) (entries : List (Option Card)) → All IsGoodEntry entries
     → IsTrue (if t then list_all (λ (e : Option Card). is_some e) entries else nat_eq (length entries) n)
-    → map entry_byte (if t then map card_entry (if t then card_bytes (cards_in entries) else sorted_bytes (card_bytes (cards_in entries)))
-    else filled n None (map card_entry (if t then card_bytes (cards_in entries) else sorted_bytes (card_bytes (cards_in entries)))))
-    ≡ filled (length entries) 0 (if t then card_bytes (cards_in entries) else sorted_bytes (card_bytes (cards_in entries)))
+    → map entry_byte (if t
+    then map card_entry (if t then card_bytes (cards_in entries) else sorted_bytes (card_bytes (cards_in entries)))
+    else filled n None
+    (map card_entry (if t then card_bytes (cards_in entries) else sorted_bytes (card_bytes (cards_in entries)))))
+    ≡ filled (length entries) 0
+    (if t then card_bytes (cards_in entries) else sorted_bytes (card_bytes (cards_in entries)))
 reserve-again true n entries good full =
     let cards : List Card = cards_in entries in
     let size : length (card_bytes cards) ≡ length entries =
-    length-map cards card_byte ∙ sym (length-map cards some_card) ∙ sym (ap (λ (es : List (Option Card)). length es) (all-filled entries full)) in
-    held-again (card_bytes cards) (entry_bytes cards (good_cards_in entries good)) ∙ sym (whole-again (length entries) (card_bytes cards) size)
+    length-map cards card_byte ∙ sym (length-map cards some_card)
+    ∙ sym (ap (λ (es : List (Option Card)). length es) (all-filled entries full)) in
+    held-again (card_bytes cards) (entry_bytes cards (good_cards_in entries good))
+    ∙ sym (whole-again (length entries) (card_bytes cards) size)
 reserve-again false n entries good full =
     let cards : List Card = cards_in entries in
     filled-again n (sorted_bytes (card_bytes cards)) (sorted_entry_bytes cards (good_cards_in entries good))
@@ -82,7 +93,8 @@ IsPileLine line = pile_bytes (pile_of_bytes line) ≡ line
 
 pile_lines : (piles : List Pile) → All IsGoodPile piles → All IsPileLine (map pile_bytes piles)
 unfolding IsPileLine
-pile_lines piles good = All-map IsPileLine pile_bytes piles (λ k d h. ap pile_bytes (pile-back (get_or piles k d) (good k d h)))
+pile_lines piles good = All-map IsPileLine pile_bytes piles
+    (λ k d h. ap pile_bytes (pile-back (get_or piles k d) (good k d h)))
 
 lines-again : (lines : List (List ℕ)) → All IsPileLine lines → map pile_bytes (map pile_of_bytes lines) ≡ lines
 unfolding IsPileLine
@@ -94,7 +106,8 @@ piles-again : (t : Bool) (piles : List Pile) → All IsGoodPile piles
 piles-again true piles good = lines-again (map pile_bytes piles) (pile_lines piles good)
 piles-again false piles good =
     lines-again (sorted_lists (map pile_bytes piles))
-    (All-permutation IsPileLine (map pile_bytes piles) (sorted_lists (map pile_bytes piles)) (sorted-permutation (slice_cmp nat_cmp) (map pile_bytes piles)) (pile_lines piles good))
+    (All-permutation IsPileLine (map pile_bytes piles) (sorted_lists (map pile_bytes piles))
+    (sorted-permutation (slice_cmp nat_cmp) (map pile_bytes piles)) (pile_lines piles good))
 
 IsRowLine : List ℕ → Type 0
 IsRowLine line = row_bytes (map entry_of_byte line) ≡ line
@@ -109,32 +122,45 @@ row_lines-again lines all = map-back (map entry_of_byte) row_bytes IsRowLine (λ
 
 rows-again : (rules : RuleParts) (board : Board) (t : Bool) → All IsGoodEntry board.slots
     → length board.slots ≡ (if t then 4 * rules.decks * rules.max_rank else 0) → t ≡ true
-    → map row_bytes (rows_of rules (record board { slots = map entry_of_byte (if t then concat (sorted_rows rules board) else []) })) ≡ sorted_rows rules board
+    → map row_bytes (rows_of rules
+    (record board { slots = map entry_of_byte (if t then concat (sorted_rows rules board) else []) }))
+    ≡ sorted_rows rules board
 rows-again rules board false good size holds = cc
 rows-again rules board true good size holds =
     let rows : List (List (Option Card)) = rows_of rules board in
     let lines : List (List ℕ) = sorted_rows rules board in
     let all : All IsRowLine lines =
-    All-permutation IsRowLine (map row_bytes rows) lines (sorted-permutation (slice_cmp nat_cmp) (map row_bytes rows)) (row_lines rows (good_rows rules board good)) in
-    ap (map row_bytes) (rows-cut rules (4 * rules.decks) lines (sorted_rows-long rules board size) (sorted_rows-size rules board))
+    All-permutation IsRowLine (map row_bytes rows) lines (sorted-permutation (slice_cmp nat_cmp) (map row_bytes rows))
+    (row_lines rows (good_rows rules board good)) in
+    ap (map row_bytes)
+    (rows-cut rules (4 * rules.decks) lines (sorted_rows-long rules board size) (sorted_rows-size rules board))
     ∙ row_lines-again lines all
 
 heights-again : (rules : RuleParts) (board : Board) (t : Bool) → t ≡ true → (suit : ℕ) → suit < 4
-    → heights_of_suit rules (record board { heights = map (height_in rules (if t then all_heights rules board else [])) (range_with_len 0 (if t then 4 * rules.decks else 0)) }) suit
+    → heights_of_suit rules (record board {
+      heights = map (height_in rules (if t then all_heights rules board else []))
+          (range_with_len 0 (if t then 4 * rules.decks else 0));
+    }) suit
     ≡ sorted_bytes (heights_of_suit rules board suit)
 heights-again rules board true holds suit small = heights-in_order rules board suit small
 heights-again rules board false holds suit small = cc
 
 -- ---- the whole board
 
-pub order-kept : (rules : RuleParts) (board : Board) (hole : List Card) → HasRanks board → Belongs rules board → board ≡ in_key_order rules board hole
+pub order-kept : (rules : RuleParts) (board : Board) (hole : List Card) → HasRanks board → Belongs rules board
+    → board ≡ in_key_order rules board hole
     → card_bytes (below_top 1 hole) ≡ sorted_bytes (card_bytes (below_top 1 board.hole)) → IsInKeyOrder rules board
 order-kept rules board hole ranks belongs same ascending = record {
-  piles = ap (λ (b : Board). map pile_bytes b.piles) same ∙ piles-again (keeps_pile_order rules board) board.piles ranks.piles;
+  piles = ap (λ (b : Board). map pile_bytes b.piles) same
+      ∙ piles-again (keeps_pile_order rules board) board.piles ranks.piles;
   cells = ap (λ (b : Board). map entry_byte b.cells) same
-      ∙ filled-again rules.cells (cell_bytes board) (sorted_entry_bytes (cards_in board.cells) (good_cards_in board.cells ranks.cells));
-  reserve = ap (λ (b : Board). map entry_byte b.reserve) same ∙ reserve-again rules.stacked rules.reserve board.reserve ranks.reserve belongs.reserve_filled;
-  heights = λ holds suit small. ap (λ (b : Board). heights_of_suit rules b suit) same ∙ heights-again rules board (is_foundation_goal rules.goal) holds suit small;
-  rows = λ holds. ap (λ (b : Board). map row_bytes (rows_of rules b)) same ∙ rows-again rules board (is_sequence_goal rules.goal) ranks.slots belongs.slots holds;
+      ∙ filled-again rules.cells (cell_bytes board)
+      (sorted_entry_bytes (cards_in board.cells) (good_cards_in board.cells ranks.cells));
+  reserve = ap (λ (b : Board). map entry_byte b.reserve) same
+      ∙ reserve-again rules.stacked rules.reserve board.reserve ranks.reserve belongs.reserve_filled;
+  heights = λ holds suit small. ap (λ (b : Board). heights_of_suit rules b suit) same
+      ∙ heights-again rules board (is_foundation_goal rules.goal) holds suit small;
+  rows = λ holds. ap (λ (b : Board). map row_bytes (rows_of rules b)) same
+      ∙ rows-again rules board (is_sequence_goal rules.goal) ranks.slots belongs.slots holds;
   hole = ap (λ (b : Board). card_bytes (below_top 1 b.hole)) same ∙ ascending;
 }

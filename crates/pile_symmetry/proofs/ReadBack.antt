@@ -1,5 +1,6 @@
 -- What the key of a board says are the board's parts, in the order of the key.
-use Rattle.std.proofs.Common.{◌≡◌, ℕ, zero, suc, ◌*◌, ◌<◌, Bool, true, false, List, [], ◌∷◌, ◌++◌, map, take, drop, length, get_or, refl, ap, ap₂, sym, ◌∙◌, arith, append_assoc}
+use Rattle.std.proofs.Common.{◌≡◌, ℕ, zero, suc, ◌*◌, ◌<◌, Bool, true, false, List, [], ◌∷◌, ◌++◌, map, take, drop}
+use Rattle.std.proofs.Common.{length, get_or, refl, ap, ap₂, sym, ◌∙◌, arith, append_assoc}
 use Rattle.std.specs.Prelude.{Option, None, if◌then◌else◌}
 use Rattle.std.specs.List.{All, concat, range_with_len}
 use Rattle.std.proofs.Math.Seq.{take-append_seam, drop-append_seam}
@@ -16,12 +17,15 @@ use Rattle.game_rules.specs.Belonging.{Belongs, foundation_count}
 use Rattle.game_rules.specs.Position.{HasRanks, filled, parts_of}
 use Rattle.game_rules.proofs.ListFacts.{map-range-same}
 use Rattle.same_boards.specs.Same.{keeps_pile_order}
-use Rattle.same_boards.specs.Keys.{card_bytes, counted, height_bytes, hole_bytes, cell_bytes, reserve_bytes, piles_bytes, rows_bytes, key_bytes}
+use Rattle.same_boards.specs.Keys.{card_bytes, counted, height_bytes, hole_bytes, cell_bytes, reserve_bytes}
+use Rattle.same_boards.specs.Keys.{piles_bytes, rows_bytes, key_bytes}
 use Rattle.same_boards.proofs.KeyParts.{card_of_byte, entry_of_byte, pile_of_bytes, cards-back, IsPileBytes}
 use Rattle.same_boards.proofs.KeysSame.{pieces-are, pieces-size, all_heights, all_heights-size}
 use Rattle.same_boards.proofs.KeySize.{rows_alone}
 use Rattle.pile_symmetry.specs.Said.{Said}
-use Rattle.pile_symmetry.specs.Reading.{counted_part, after_counted, pile_in, after_pile, after_piles, piles_in, card_entry, reserve_in, heights_in, hole_size, from_waste, from_heights, from_hole, from_cells, from_reserve, said, row_in, top_in, parts_said}
+use Rattle.pile_symmetry.specs.Reading.{counted_part, after_counted, pile_in, after_pile, after_piles, piles_in}
+use Rattle.pile_symmetry.specs.Reading.{card_entry, reserve_in, heights_in, hole_size, from_waste, from_heights}
+use Rattle.pile_symmetry.specs.Reading.{from_hole, from_cells, from_reserve, said, row_in, top_in, parts_said}
 
 -- ---- the bytes of each part
 
@@ -37,19 +41,84 @@ first-back n xs r e = ap (λ (k : ℕ). take k (xs ++ r)) (sym e) ∙ take-appen
 rest-back : (n : ℕ) (xs r : List ℕ) → length xs ≡ n → drop n (xs ++ r) ≡ r
 rest-back n xs r e = ap (λ (k : ℕ). drop k (xs ++ r)) (sym e) ∙ drop-append_seam xs r
 
-said-same : (left : ℕ) (a b c d e f g a' b' c' d' e' f' g' : List ℕ) → a ≡ a' → b ≡ b' → c ≡ c' → d ≡ d' → e ≡ e' → f ≡ f' → g ≡ g'
-    → (let s : Said = record { redeals_left = left; stock = a; waste = b; heights = c; hole = d; cells = e; reserve = f; rest = g } in s)
-    ≡ (let s : Said = record { redeals_left = left; stock = a'; waste = b'; heights = c'; hole = d'; cells = e'; reserve = f'; rest = g' } in s)
+said-same : (left : ℕ) (a b c d e f g a' b' c' d' e' f' g' : List ℕ) → a ≡ a' → b ≡ b' → c ≡ c' → d ≡ d'
+    → e ≡ e' → f ≡ f' → g ≡ g'
+    → (let s : Said = record {
+      redeals_left = left;
+      stock = a;
+      waste = b;
+      heights = c;
+      hole = d;
+      cells = e;
+      reserve = f;
+      rest = g;
+    } in s)
+    ≡ (let s : Said = record {
+      redeals_left = left;
+      stock = a';
+      waste = b';
+      heights = c';
+      hole = d';
+      cells = e';
+      reserve = f';
+      rest = g';
+    } in s)
 said-same left a b c d e f g a' b' c' d' e' f' g' pa pb pc pd pe pf pg =
-    ap₂ (λ (x y : List ℕ). let s : Said = record { redeals_left = left; stock = x; waste = y; heights = c; hole = d; cells = e; reserve = f; rest = g } in s) pa pb
-    ∙ ap₂ (λ (x y : List ℕ). let s : Said = record { redeals_left = left; stock = a'; waste = b'; heights = x; hole = y; cells = e; reserve = f; rest = g } in s) pc pd
-    ∙ ap₂ (λ (x y : List ℕ). let s : Said = record { redeals_left = left; stock = a'; waste = b'; heights = c'; hole = d'; cells = x; reserve = y; rest = g } in s) pe pf
-    ∙ ap (λ (x : List ℕ). let s : Said = record { redeals_left = left; stock = a'; waste = b'; heights = c'; hole = d'; cells = e'; reserve = f'; rest = x } in s) pg
+    ap₂ (λ (x y : List ℕ). let s : Said = record {
+      redeals_left = left;
+      stock = x;
+      waste = y;
+      heights = c;
+      hole = d;
+      cells = e;
+      reserve = f;
+      rest = g;
+    } in s) pa pb
+    ∙ ap₂ (λ (x y : List ℕ). let s : Said = record {
+      redeals_left = left;
+      stock = a';
+      waste = b';
+      heights = x;
+      hole = y;
+      cells = e;
+      reserve = f;
+      rest = g;
+    } in s) pc pd
+    ∙ ap₂ (λ (x y : List ℕ). let s : Said = record {
+      redeals_left = left;
+      stock = a';
+      waste = b';
+      heights = c';
+      hole = d';
+      cells = x;
+      reserve = y;
+      rest = g;
+    } in s) pe pf
+    ∙ ap (λ (x : List ℕ). let s : Said = record {
+      redeals_left = left;
+      stock = a';
+      waste = b';
+      heights = c';
+      hole = d';
+      cells = e';
+      reserve = f';
+      rest = x;
+    } in s) pg
 
 said-back : (rules : RuleParts) (left : ℕ) (stock waste heights hole cells reserve rest : List ℕ)
     → length heights ≡ foundation_count rules → length hole ≡ hole_size rules
-    → said rules (left ∷ (counted stock ++ (counted waste ++ (heights ++ (hole ++ (counted cells ++ (counted reserve ++ rest)))))))
-    ≡ record { redeals_left = left; stock = stock; waste = waste; heights = heights; hole = hole; cells = cells; reserve = reserve; rest = rest }
+    → said rules (left
+    ∷ (counted stock ++ (counted waste ++ (heights ++ (hole ++ (counted cells ++ (counted reserve ++ rest)))))))
+    ≡ record {
+      redeals_left = left;
+      stock = stock;
+      waste = waste;
+      heights = heights;
+      hole = hole;
+      cells = cells;
+      reserve = reserve;
+      rest = rest;
+    }
 said-back rules left stock waste heights hole cells reserve rest many size =
     let s₇ : List ℕ = counted reserve ++ rest in
     let s₆ : List ℕ = counted cells ++ s₇ in
@@ -59,7 +128,8 @@ said-back rules left stock waste heights hole cells reserve rest many size =
     let key : List ℕ = left ∷ (counted stock ++ s₃) in
     let e₃ : from_waste key ≡ s₃ = after-back stock s₃ in
     let e₄ : from_heights key ≡ s₄ = ap after_counted e₃ ∙ after-back waste s₄ in
-    let e₅ : from_hole rules key ≡ s₅ = ap (drop (foundation_count rules)) e₄ ∙ rest-back (foundation_count rules) heights s₅ many in
+    let e₅ : from_hole rules key ≡ s₅ = ap (drop (foundation_count rules)) e₄
+    ∙ rest-back (foundation_count rules) heights s₅ many in
     let e₆ : from_cells rules key ≡ s₆ = ap (drop (hole_size rules)) e₅ ∙ rest-back (hole_size rules) hole s₆ size in
     let e₇ : from_reserve rules key ≡ s₇ = ap after_counted e₆ ∙ after-back cells s₇ in
     said-same left _ _ _ _ _ _ _ stock waste heights hole cells reserve rest
@@ -81,7 +151,8 @@ pile-back : (line r : List ℕ) → IsPileBytes line → pile_in (line ++ r) ≡
 pile-back [] r h = absurd h
 pile-back (n ∷ []) r h = absurd h
 pile-back (n ∷ face_down ∷ bytes) r h =
-    ap (λ (xs : List ℕ). let p : Pile = record { cards = map card_of_byte xs; face_down = face_down } in p) (first-back n bytes r (sym h))
+    ap (λ (xs : List ℕ). let p : Pile = record { cards = map card_of_byte xs; face_down = face_down } in p)
+    (first-back n bytes r (sym h))
 
 after_pile-back : (line r : List ℕ) → IsPileBytes line → after_pile (line ++ r) ≡ r
 after_pile-back [] r h = absurd h
@@ -92,10 +163,12 @@ pile_at-back : (lines : List (List ℕ)) (r : List ℕ) (k : ℕ) → All IsPile
     → pile_in (after_piles k (concat lines ++ r)) ≡ get_or (map pile_of_bytes lines) k empty_pile
 pile_at-back [] r k all inside = absurd (omega arith)
 pile_at-back (line ∷ lines) r zero all inside =
-    ap pile_in (append_assoc line (concat lines) r) ∙ pile-back line (concat lines ++ r) (All-head IsPileBytes line lines all)
+    ap pile_in (append_assoc line (concat lines) r) ∙ pile-back line (concat lines ++ r)
+    (All-head IsPileBytes line lines all)
 pile_at-back (line ∷ lines) r (suc k) all inside =
     let first : after_pile (concat (line ∷ lines) ++ r) ≡ concat lines ++ r =
-    ap after_pile (append_assoc line (concat lines) r) ∙ after_pile-back line (concat lines ++ r) (All-head IsPileBytes line lines all) in
+    ap after_pile (append_assoc line (concat lines) r) ∙ after_pile-back line (concat lines ++ r)
+    (All-head IsPileBytes line lines all) in
     ap pile_in (after_piles-first k (concat (line ∷ lines) ++ r) ∙ ap (after_piles k) first)
     ∙ pile_at-back lines r k (All-tail IsPileBytes line lines all) (omega arith)
 
@@ -103,21 +176,27 @@ piles-back : (n : ℕ) (lines : List (List ℕ)) (r : List ℕ) → All IsPileBy
     → piles_in n (concat lines ++ r) ≡ map pile_of_bytes lines
 piles-back n lines r all size =
     let many : length (map pile_of_bytes lines) ≡ n = length-map lines pile_of_bytes ∙ size in
-    sym (fill_by_all (λ (i : ℕ). pile_in (after_piles i (concat lines ++ r))) (map pile_of_bytes lines) n empty_pile many
+    sym (fill_by_all (λ (i : ℕ). pile_in (after_piles i (concat lines ++ r)))
+    (map pile_of_bytes lines) n empty_pile many
     (λ k inside. sym (pile_at-back lines r k all (omega (arith, inside, size)))))
 
 -- ---- rows
 
-row-back : (rules : RuleParts) (bytes : List ℕ) (r : ℕ) → row_in rules bytes r ≡ take rules.max_rank (drop (r * rules.max_rank) (map entry_of_byte bytes))
+row-back : (rules : RuleParts) (bytes : List ℕ) (r : ℕ)
+    → row_in rules bytes r ≡ take rules.max_rank (drop (r * rules.max_rank) (map entry_of_byte bytes))
 row-back rules bytes r =
-    sym (ap (take rules.max_rank) (drop-map entry_of_byte (r * rules.max_rank) bytes) ∙ take-map entry_of_byte rules.max_rank (drop (r * rules.max_rank) bytes))
+    sym (ap (take rules.max_rank) (drop-map entry_of_byte (r * rules.max_rank) bytes)
+    ∙ take-map entry_of_byte rules.max_rank (drop (r * rules.max_rank) bytes))
 
 rows-back_if : (rules : RuleParts) (t : Bool) (bytes other : List ℕ) → (t ≡ true → bytes ≡ other)
     → map (row_in rules bytes) (range_with_len 0 (if t then 4 * rules.decks else 0))
-    ≡ map (λ r. take rules.max_rank (drop (r * rules.max_rank) (map entry_of_byte other))) (range_with_len 0 (if t then 4 * rules.decks else 0))
+    ≡ map (λ r. take rules.max_rank (drop (r * rules.max_rank) (map entry_of_byte other)))
+    (range_with_len 0 (if t then 4 * rules.decks else 0))
 rows-back_if rules true bytes other same =
-    map-range-same (row_in rules bytes) (λ (r : ℕ). take rules.max_rank (drop (r * rules.max_rank) (map entry_of_byte other))) 0 (4 * rules.decks)
-    (λ r low high. row-back rules bytes r ∙ ap (λ (xs : List ℕ). take rules.max_rank (drop (r * rules.max_rank) (map entry_of_byte xs))) (same refl))
+    map-range-same (row_in rules bytes)
+    (λ (r : ℕ). take rules.max_rank (drop (r * rules.max_rank) (map entry_of_byte other))) 0 (4 * rules.decks)
+    (λ r low high. row-back rules bytes r
+    ∙ ap (λ (xs : List ℕ). take rules.max_rank (drop (r * rules.max_rank) (map entry_of_byte xs))) (same refl))
 rows-back_if rules false bytes other same = refl
 
 -- ---- the parts of the board in the order of the key
@@ -133,27 +212,34 @@ in_key_order rules board hole = record board {
   slots = map entry_of_byte (rows_bytes rules board);
 }
 
-heights-many_if : (t : Bool) (n : ℕ) (xs : List ℕ) → length xs ≡ 4 * n → length (if t then xs else []) ≡ (if t then 4 * n else 0)
+heights-many_if : (t : Bool) (n : ℕ) (xs : List ℕ) → length xs ≡ 4 * n
+    → length (if t then xs else []) ≡ (if t then 4 * n else 0)
 heights-many_if true n xs e = e
 heights-many_if false n xs e = refl
 
 pub heights-many : (rules : RuleParts) (board : Board) → length (height_bytes rules board) ≡ foundation_count rules
-heights-many rules board = heights-many_if (is_foundation_goal rules.goal) rules.decks (all_heights rules board) (all_heights-size rules board)
+heights-many rules board = heights-many_if (is_foundation_goal rules.goal) rules.decks (all_heights rules board)
+    (all_heights-size rules board)
 
 hole-bytes_if : (t : Bool) (n top : ℕ) → length (if t then n ∷ top ∷ [] else []) ≡ (if t then 2 else 0)
 hole-bytes_if true n top = refl
 hole-bytes_if false n top = refl
 
-parts-same : (parts : BoardParts) (a a' : List (List Card)) (b b' : List ℕ) (c c' d d' : List Card) (e e' : List (List (Option Card)))
+parts-same : (parts : BoardParts) (a a' : List (List Card)) (b b' : List ℕ) (c c' d d' : List Card)
+    (e e' : List (List (Option Card)))
     → a ≡ a' → b ≡ b' → c ≡ c' → d ≡ d' → e ≡ e'
-    → record parts { tableau = a; face_down = b; stock = c; waste = d; rows = e } ≡ record parts { tableau = a'; face_down = b'; stock = c'; waste = d'; rows = e' }
+    → record parts { tableau = a; face_down = b; stock = c; waste = d; rows = e }
+    ≡ record parts { tableau = a'; face_down = b'; stock = c'; waste = d'; rows = e' }
 parts-same parts a a' b b' c c' d d' e e' pa pb pc pd pe =
-    ap₂ (λ (x : List (List Card)) (y : List ℕ). record parts { tableau = x; face_down = y; stock = c; waste = d; rows = e }) pa pb
+    ap₂ (λ (x : List (List Card)) (y : List ℕ).
+    record parts { tableau = x; face_down = y; stock = c; waste = d; rows = e }) pa pb
     ∙ ap₂ (λ (x y : List Card). record parts { tableau = a'; face_down = b'; stock = x; waste = y; rows = e }) pc pd
-    ∙ ap (λ (x : List (List (Option Card))). record parts { tableau = a'; face_down = b'; stock = c'; waste = d'; rows = x }) pe
+    ∙ ap (λ (x : List (List (Option Card))).
+    record parts { tableau = a'; face_down = b'; stock = c'; waste = d'; rows = x }) pe
 
 pub parts-back : (rules : RuleParts) (board : Board) → IsPlayable rules → HasRanks board → Belongs rules board
-    → parts_said rules (said rules (key_bytes rules board)) ≡ parts_of rules (in_key_order rules board (top_in (hole_bytes rules board)))
+    → parts_said rules (said rules (key_bytes rules board)) ≡ parts_of rules
+    (in_key_order rules board (top_in (hole_bytes rules board)))
 parts-back rules board playable ranks belongs =
     let lines : List (List ℕ) = piles_bytes rules board in
     let rows : List ℕ = rows_bytes rules board in
@@ -169,8 +255,10 @@ parts-back rules board playable ranks belongs =
       rest = concat lines ++ rows;
     } in
     let whole : said rules (key_bytes rules board) ≡ s =
-    said-back rules board.redeals_left (card_bytes board.stock) (card_bytes board.waste) (height_bytes rules board) (hole_bytes rules board)
-    (cell_bytes board) (reserve_bytes rules board) (concat lines ++ rows) (heights-many rules board) (hole-bytes_if (is_hole_goal rules.goal) _ _) in
+    said-back rules board.redeals_left (card_bytes board.stock) (card_bytes board.waste) (height_bytes rules board)
+    (hole_bytes rules board)
+    (cell_bytes board) (reserve_bytes rules board) (concat lines ++ rows) (heights-many rules board)
+    (hole-bytes_if (is_hole_goal rules.goal) _ _) in
     let piles : piles_in rules.piles (concat lines ++ rows) ≡ map pile_of_bytes lines =
     piles-back rules.piles lines rows (pieces-are (keeps_pile_order rules board) board.piles) many in
     let alone : is_sequence_goal rules.goal ≡ true → concat lines ++ rows ≡ rows =

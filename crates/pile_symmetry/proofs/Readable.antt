@@ -31,15 +31,20 @@ reserve-few rules board playable belongs =
     let few = belongs.reserve_size in
     omega (arith, most, few)
 
-pub readable-belongs : (rules : RuleParts) (board : Board) → IsPlayable rules → Belongs rules board → IsReadable rules board
+pub readable-belongs : (rules : RuleParts) (board : Board) → IsPlayable rules → Belongs rules board
+    → IsReadable rules board
 readable-belongs rules board playable belongs =
-    readable rules board belongs.piles belongs.cells belongs.foundations belongs.slots (reserve-few rules board playable belongs)
+    readable rules board belongs.piles belongs.cells belongs.foundations belongs.slots
+    (reserve-few rules board playable belongs)
     (small_numbers rules board playable belongs)
 
-pub readable-coloured : (rules : RuleParts) (board : Board) → IsPlayable rules → Belongs rules board → IsReadable rules (coloured_board board)
+pub readable-coloured : (rules : RuleParts) (board : Board) → IsPlayable rules → Belongs rules board
+    → IsReadable rules (coloured_board board)
 readable-coloured rules board playable belongs =
-    let reserve : length (map coloured_entry board.reserve) ≡ length board.reserve = length-map board.reserve coloured_entry in
+    let reserve : length (map coloured_entry board.reserve) ≡ length board.reserve =
+    length-map board.reserve coloured_entry in
     let few = reserve-few rules board playable belongs in
-    readable rules (coloured_board board) (length-map board.piles coloured_pile ∙ belongs.piles) (length-map board.cells coloured_entry ∙ belongs.cells)
+    readable rules (coloured_board board) (length-map board.piles coloured_pile ∙ belongs.piles)
+    (length-map board.cells coloured_entry ∙ belongs.cells)
     belongs.foundations (length-map board.slots coloured_entry ∙ belongs.slots) (omega (arith, reserve, few))
     (numbers-coloured rules board (small_numbers rules board playable belongs))

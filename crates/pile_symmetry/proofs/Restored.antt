@@ -43,9 +43,11 @@ restored rules board playable belongs =
     let hole : List Card = hole_of rules board in
     let other : Board = in_key_order rules board hole in
     let same : Same rules board other =
-    same-in_order rules board hole ranks belongs (sym (length_permutation board.hole hole filled.permuted)) filled.top in
+    same-in_order rules board hole ranks belongs
+    (sym (length_permutation board.hole hole filled.permuted)) filled.top in
     let other_belongs : Belongs rules other =
-    belongs-from_same rules board other limits belongs (places-in_order rules board hole belongs) same filled.permuted in
+    belongs-from_same rules board other limits belongs
+    (places-in_order rules board hole belongs) same filled.permuted in
     let parts : whole_parts rules (key_bytes rules board) ≡ parts_of rules other =
     ap (λ (p : BoardParts). record p { hole = hole_in rules p }) (parts-back rules board playable ranks belongs) in
     let whole : board_of_parts rules (whole_parts rules (key_bytes rules board)) ≡ other =
@@ -59,11 +61,13 @@ restored rules board playable belongs =
 pub found-in_order : (rules : RuleParts) (key : List ℕ) (board : Board) → IsPlayable rules → Belongs rules board
     → board ≡ board_of_parts rules (whole_parts rules key) → key_bytes rules board ≡ key → IsInKeyOrder rules board
 found-in_order rules key board playable belongs read same =
-    (restored rules board playable belongs).in_order (read ∙ ap (λ (k : List ℕ). board_of_parts rules (whole_parts rules k)) (sym same))
+    (restored rules board playable belongs).in_order
+    (read ∙ ap (λ (k : List ℕ). board_of_parts rules (whole_parts rules k)) (sym same))
 
 -- where the board that is read has another key, no board that belongs has the key
 pub no-other_key : (rules : RuleParts) (key : List ℕ) (board other : Board) → IsPlayable rules
-    → board ≡ board_of_parts rules (whole_parts rules key) → (key_bytes rules board ≡ key → ⊥) → Belongs rules other → key_bytes rules other ≡ key → ⊥
+    → board ≡ board_of_parts rules (whole_parts rules key) → (key_bytes rules board ≡ key → ⊥) → Belongs rules other
+    → key_bytes rules other ≡ key → ⊥
 no-other_key rules key board other playable read differs belongs same =
     differs (ap (key_bytes rules) (read ∙ ap (λ (k : List ℕ). board_of_parts rules (whole_parts rules k)) (sym same))
     ∙ (restored rules other playable belongs).key ∙ same)
@@ -73,12 +77,15 @@ pub no-faulty_key : (rules : RuleParts) (key : List ℕ) (fault : BoardFault) (o
     → fault_of rules (whole_parts rules key) ≡ Some fault → Belongs rules other → key_bytes rules other ≡ key → ⊥
 no-faulty_key rules key fault other playable faulty belongs same =
     let none : fault_of rules (whole_parts rules key) ≡ None =
-    ap (λ (k : List ℕ). fault_of rules (whole_parts rules k)) (sym same) ∙ (restored rules other playable belongs).no_fault in
+    ap (λ (k : List ℕ). fault_of rules (whole_parts rules k)) (sym same)
+    ∙ (restored rules other playable belongs).no_fault in
     cc (faulty, none)
 
-pub found-if : (rules : RuleParts) (key : List ℕ) (board : Board) (found : Option Board) → IsPlayable rules → Belongs rules board
+pub found-if : (rules : RuleParts) (key : List ℕ) (board : Board) (found : Option Board) → IsPlayable rules
+    → Belongs rules board
     → board ≡ board_of_parts rules (whole_parts rules key)
-    → MatchOption found (key_bytes rules board ≡ key → ⊥) (λ f. (f ≡ board) × (key_bytes rules board ≡ key)) → IfSome found (λ b. IsInKeyOrder rules b)
+    → MatchOption found (key_bytes rules board ≡ key → ⊥) (λ f. (f ≡ board) × (key_bytes rules board ≡ key))
+    → IfSome found (λ b. IsInKeyOrder rules b)
 found-if rules key board None playable belongs read h = tt
 found-if rules key board (Some f) playable belongs read h =
     subst (λ (b : Board). IsInKeyOrder rules b) (sym h.0) (found-in_order rules key board playable belongs read h.1)
@@ -87,10 +94,12 @@ pub none-if : (rules : RuleParts) (key : List ℕ) (board : Board) (found : Opti
     → board ≡ board_of_parts rules (whole_parts rules key)
     → MatchOption found (key_bytes rules board ≡ key → ⊥) (λ f. (f ≡ board) × (key_bytes rules board ≡ key))
     → found ≡ None → (other : Board) → Belongs rules other → key_bytes rules other ≡ key → ⊥
-none-if rules key board None playable read h empty other belongs same = no-other_key rules key board other playable read h belongs same
+none-if rules key board None playable read h empty other belongs same = no-other_key rules key board other playable
+    read h belongs same
 none-if rules key board (Some f) playable read h empty other belongs same = cc
 
-pub fault-if : (rules : RuleParts) (key : List ℕ) (parts : BoardParts) (fault : BoardFault) → IsPlayable rules → parts ≡ whole_parts rules key
+pub fault-if : (rules : RuleParts) (key : List ℕ) (parts : BoardParts) (fault : BoardFault) → IsPlayable rules
+    → parts ≡ whole_parts rules key
     → (fault ≡ Memory) ⊎ (fault_of rules parts ≡ Some fault) → (fault ≡ Memory → ⊥)
     → (other : Board) → Belongs rules other → key_bytes rules other ≡ key → ⊥
 fault-if rules key parts fault playable read cause not_memory other belongs same =

@@ -32,9 +32,11 @@ entry-coloured (Some card) = refl
 pub entries-coloured : (entries : List (Option Card)) → map (option_map coloured) entries ≡ map coloured_entry entries
 entries-coloured [] = refl
 entries-coloured (None ∷ entries) = ap (λ (xs : List (Option Card)). None ∷ xs) (entries-coloured entries)
-entries-coloured (Some card ∷ entries) = ap (λ (xs : List (Option Card)). Some (coloured card) ∷ xs) (entries-coloured entries)
+entries-coloured (Some card ∷ entries) = ap (λ (xs : List (Option Card)). Some (coloured card) ∷ xs)
+    (entries-coloured entries)
 
-pub entry_at-coloured : (entries : List (Option Card)) (i : ℕ) → entry_at (map coloured_entry entries) i ≡ coloured_entry (entry_at entries i)
+pub entry_at-coloured : (entries : List (Option Card)) (i : ℕ)
+    → entry_at (map coloured_entry entries) i ≡ coloured_entry (entry_at entries i)
 entry_at-coloured entries i = get_or-map coloured_entry entries i None
 
 pub pile_at-coloured : (board : Board) (i : ℕ) → pile_at (coloured_board board) i ≡ coloured_pile (pile_at board i)

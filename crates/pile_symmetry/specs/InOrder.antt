@@ -6,7 +6,8 @@ use Rattle.game_rules.specs.Board.{Board, below_top}
 use Rattle.game_rules.specs.Winning.{rows_of}
 use Rattle.game_rules.specs.Position.{filled}
 use Rattle.same_boards.specs.Same.{heights_of_suit}
-use Rattle.same_boards.specs.Keys.{sorted_bytes, sorted_lists, card_bytes, entry_byte, cell_bytes, reserve_bytes, pile_bytes, piles_bytes, row_bytes}
+use Rattle.same_boards.specs.Keys.{sorted_bytes, sorted_lists, card_bytes, entry_byte, cell_bytes, reserve_bytes}
+use Rattle.same_boards.specs.Keys.{pile_bytes, piles_bytes, row_bytes}
 
 -- like places hold their cards in the order of the key, from place 0 on; the cards below the top of the hole go up
 pub record IsInKeyOrder (rules : RuleParts) (board : Board) : Type 0 where

@@ -1,5 +1,6 @@
 -- The parts that bytes say as a key. Any bytes say some parts: whether they are a key is told by the board's own key.
-use Rattle.std.specs.Prelude.{ℕ, zero, suc, ◌+◌, ◌-◌, ◌*◌, ◌/◌, ◌%◌, List, [], ◌∷◌, ◌++◌, map, take, drop, replicate, slice_index_or, Option, Some, None, if◌then◌else◌}
+use Rattle.std.specs.Prelude.{ℕ, zero, suc, ◌+◌, ◌-◌, ◌*◌, ◌/◌, ◌%◌, List, [], ◌∷◌, ◌++◌, map, take, drop, replicate}
+use Rattle.std.specs.Prelude.{slice_index_or, Option, Some, None, if◌then◌else◌}
 use Rattle.std.specs.Option.{option_to_list}
 use Rattle.std.specs.List.{range_with_len, flat_map, sum_by}
 use Rattle.card_piles.specs.declared.Card.{Card}
@@ -49,7 +50,8 @@ card_entry byte = Some (card_of_byte byte)
 
 -- the reserve of its cards' bytes
 abbrev pub reserve_in : RuleParts → List ℕ → List (Option Card)
-reserve_in rules bytes = if rules.stacked then map card_entry bytes else filled rules.reserve None (map card_entry bytes)
+reserve_in rules bytes = if rules.stacked then map card_entry bytes
+    else filled rules.reserve None (map card_entry bytes)
 
 -- the height of a foundation: the bytes go suit by suit
 abbrev pub height_in : RuleParts → List ℕ → ℕ → ℕ
@@ -149,4 +151,5 @@ hole_in rules parts = if is_hole_goal rules.goal then lacking_cards rules parts 
 
 -- the parts that bytes say, with the hole filled
 abbrev pub whole_parts : RuleParts → List ℕ → BoardParts
-whole_parts rules bytes = record (parts_said rules (said rules bytes)) { hole = hole_in rules (parts_said rules (said rules bytes)) }
+whole_parts rules bytes =
+    record (parts_said rules (said rules bytes)) { hole = hole_in rules (parts_said rules (said rules bytes)) }

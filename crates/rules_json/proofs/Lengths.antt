@@ -1,9 +1,11 @@
 -- The one spelling of rules is short enough to be read.
-use Rattle.std.proofs.Common.{◌≡◌, ◌≤◌, ◌<◌, ◌+◌, ◌*◌, ◌^◌, ◌++◌, ℕ, List, [], ◌∷◌, Bool, true, false, cond, length, refl, arith, nat_le, nat_lt, decimal, length-append, lit≤, flat_map}
+use Rattle.std.proofs.Common.{◌≡◌, ◌≤◌, ◌<◌, ◌+◌, ◌*◌, ◌^◌, ◌++◌, ℕ, List, [], ◌∷◌, Bool, true, false, cond, length}
+use Rattle.std.proofs.Common.{refl, arith, nat_le, nat_lt, decimal, length-append, lit≤, flat_map}
 use Rattle.std.proofs.lemmas.Bool.Decides.{nat_tests}
 use Rattle.std.proofs.lemmas.Fmt.{length-decimal-le}
 use Rattle.json.specs.Print.{escape_byte, escape_letter, quoted}
-use Rattle.serde_json.specs.Data.{Data, null, boolean, number, string, array, object, Items, no_items, item, Members, no_members, member, put}
+use Rattle.serde_json.specs.Data.{Data, null, boolean, number, string, array, object, Items, no_items, item, Members}
+use Rattle.serde_json.specs.Data.{no_members, member, put}
 use Rattle.serde_json.specs.Written.{compact_text, items_text, members_text, number_text, comma_if}
 use Rattle.card_piles.specs.declared.Build.{Build}
 use Rattle.card_piles.specs.declared.Build.TheVariants.{NoBuild, AnySuit, RedBlack, SameSuit}
@@ -26,8 +28,10 @@ use Rattle.game_rules.specs.declared.Redeals.{Redeals}
 use Rattle.game_rules.specs.declared.Redeals.TheVariants.{Times, Unlimited}
 use Rattle.game_rules.specs.Conflicts.{are_redeals_within, is_base_within}
 use Rattle.game_rules.proofs.Limits.{both}
-use Rattle.rules_json.specs.Words.{layout_word, face_word, build_word, groups_word, spaces_word, target_word, start_word}
-use Rattle.rules_json.specs.Spelling.{tableau_tree, cells_tree, reserve_tree, redeals_tree, stock_tree, goal_key, goal_tree, common_parts, rules_tree, rules_text}
+use Rattle.rules_json.specs.Words.{layout_word, face_word, build_word, groups_word, spaces_word}
+use Rattle.rules_json.specs.Words.{target_word, start_word}
+use Rattle.rules_json.specs.Spelling.{tableau_tree, cells_tree, reserve_tree, redeals_tree, stock_tree, goal_key}
+use Rattle.rules_json.specs.Spelling.{goal_tree, common_parts, rules_tree, rules_text}
 use Rattle.rules_json.proofs.Spelled.{AreWithin}
 
 shorter : (a b c : ℕ) → a ≤ b → b ≤ c → a ≤ c
@@ -80,7 +84,8 @@ items_step : (comma value rest : List ℕ) (a b : ℕ) → length comma ≤ 1 �
     → length (comma ++ (value ++ rest)) ≤ 1 + a + b
 items_step comma value rest a b h i j = simp length-append (omega arith)
 
-members_step : (comma key value rest : List ℕ) (a b c : ℕ) → length comma ≤ 1 → length key ≤ a → length value ≤ b → length rest ≤ c
+members_step : (comma key value rest : List ℕ) (a b c : ℕ) → length comma ≤ 1 → length key ≤ a
+    → length value ≤ b → length rest ≤ c
     → length (comma ++ (key ++ 58 ∷ (value ++ rest))) ≤ 2 + a + b + c
 members_step comma key value rest a b c h i j k = simp length-append (omega arith)
 
@@ -91,8 +96,10 @@ mutual
   length-compact_text (boolean false) = lit≤ tt
   length-compact_text (number n) = omega arith
   length-compact_text (string s) = length-quoted s
-  length-compact_text (array ds) = let h : length (items_text false ds) ≤ items_size ds = length-items_text false ds in omega arith
-  length-compact_text (object ms) = let h : length (members_text false ms) ≤ members_size ms = length-members_text false ms in omega arith
+  length-compact_text (array ds) = let h : length (items_text false ds) ≤ items_size ds =
+      length-items_text false ds in omega arith
+  length-compact_text (object ms) = let h : length (members_text false ms) ≤ members_size ms =
+      length-members_text false ms in omega arith
 
   length-items_text : (later : Bool) (ds : Items) → length (items_text later ds) ≤ items_size ds
   length-items_text later no_items = lit≤ tt
@@ -103,7 +110,8 @@ mutual
   length-members_text : (later : Bool) (ms : Members) → length (members_text later ms) ≤ members_size ms
   length-members_text later no_members = lit≤ tt
   length-members_text later (member k d ms) =
-      members_step (comma_if later) (quoted k) (compact_text d) (members_text true ms) (6 * length k + 2) (size d) (members_size ms)
+      members_step (comma_if later) (quoted k) (compact_text d) (members_text true ms) (6 * length k + 2)
+      (size d) (members_size ms)
       (length-comma_if later) (length-quoted k) (length-compact_text d) (length-members_text true ms)
 
 length-layout_word : (layout : Layout) → length (layout_word layout) ≤ 9
@@ -191,7 +199,8 @@ others_short rules h = record {
   reserve = length-decimal rules.reserve 52 h.reserve (omega arith);
 }
 
-size-goal : (rules : RuleParts) (goal : Goal) → size (goal_tree goal) ≤ 1000 → size (tableau_tree rules) ≤ 1000 → size (stock_tree rules) ≤ 1000 → OthersAreShort rules
+size-goal : (rules : RuleParts) (goal : Goal) → size (goal_tree goal) ≤ 1000 → size (tableau_tree rules) ≤ 1000
+    → size (stock_tree rules) ≤ 1000 → OthersAreShort rules
     → size (object (put (goal_key goal) (goal_tree goal) (common_parts rules))) ≤ 65536
 size-goal rules (Foundations base started take_back complete_runs) own tableau stock others = omega arith
 size-goal rules (Hole wrap start) own tableau stock others = omega arith
@@ -201,5 +210,6 @@ pub length-rules_text : (rules : RuleParts) → AreWithin rules → length (rule
 length-rules_text rules h =
     let text : length (rules_text rules) ≤ size (rules_tree rules) = length-compact_text (rules_tree rules) in
     let small : size (rules_tree rules) ≤ 65536 =
-    size-goal rules rules.goal (size-goal_tree rules.goal h.base) (size-tableau_tree rules h) (size-stock_tree rules h) (others_short rules h) in
+    size-goal rules rules.goal (size-goal_tree rules.goal h.base) (size-tableau_tree rules h) (size-stock_tree rules h)
+    (others_short rules h) in
     shorter _ _ _ text small

@@ -12,7 +12,8 @@ use Rattle.game_rules.specs.declared.Spaces.{Spaces}
 use Rattle.game_rules.specs.declared.Spaces.TheVariants.{Any, King, NoFill}
 use Rattle.game_rules.specs.declared.Target.{Target}
 use Rattle.game_rules.specs.declared.Target.TheVariants.{ToWaste, ToTableau, ToHole}
-use Rattle.rules_json.specs.Words.{layout_named, layout_word, face_named, face_word, build_named, build_word, groups_named, groups_word, spaces_named, spaces_word, target_named, target_word}
+use Rattle.rules_json.specs.Words.{layout_named, layout_word, face_named, face_word, build_named, build_word}
+use Rattle.rules_json.specs.Words.{groups_named, groups_word, spaces_named, spaces_word, target_named, target_word}
 
 pub layout_named-word : (layout : Layout) → layout_named (layout_word layout) ≡ Some layout
 layout_named-word Even = refl

@@ -11,7 +11,8 @@ pub rules_of-object : (bytes : List ℕ) (top : Data) → object_of bytes ≡ Ok
 unfolding rules_of
 rules_of-object bytes top h = rw h refl
 
-pub rules_of-fault : (bytes : List ℕ) (fault : FileFault) → object_of bytes ≡ Err fault → rules_of bytes ≡ Err (of_file fault)
+pub rules_of-fault : (bytes : List ℕ) (fault : FileFault) → object_of bytes ≡ Err fault
+    → rules_of bytes ≡ Err (of_file fault)
 unfolding rules_of
 rules_of-fault bytes fault h = rw h refl
 

@@ -1,5 +1,6 @@
 -- The tree of playable rules reads as these rules, part by part.
-use Rattle.std.proofs.Common.{◌≡◌, ◌∙◌, ◌&&◌, ℕ, Bool, true, false, refl, ap, Ok, Some, None, IsTrue, arith, nat_le, Result}
+use Rattle.std.proofs.Common.{◌≡◌, ◌∙◌, ◌&&◌, ℕ, Bool, true, false, refl, ap, Ok, Some, None, IsTrue, arith}
+use Rattle.std.proofs.Common.{nat_le, Result}
 use Rattle.std.proofs.lemmas.Bool.Decides.{nat_tests}
 use Rattle.serde_json.specs.Data.{object, put}
 use Rattle.json_tree.specs.Choice.{◌>>=◌}
@@ -14,27 +15,51 @@ use Rattle.game_rules.specs.Conflicts.{IsPlayable, are_redeals_within, is_base_w
 use Rattle.game_rules.proofs.Limits.{numbers_of, both}
 use Rattle.rules_json.specs.Words.{start_named, start_word, HasNamedStart}
 use Rattle.rules_json.specs.Values.{redeals}
-use Rattle.rules_json.specs.Parts.{top_of, tableau_of, foundations_of, hole_of, sequences_of, cells_of, reserve_of, stock_of}
+use Rattle.rules_json.specs.Parts.{top_of, tableau_of, foundations_of, hole_of, sequences_of, cells_of}
+use Rattle.rules_json.specs.Parts.{reserve_of, stock_of}
 use Rattle.rules_json.specs.RulesFile.{parts_of_tree, rules_of_tree, or_conflict}
-use Rattle.rules_json.specs.Spelling.{tableau_tree, cells_tree, reserve_tree, redeals_tree, stock_tree, goal_key, goal_tree, common_parts, rules_tree}
-use Rattle.rules_json.proofs.Named.{layout_named-word, face_named-word, build_named-word, groups_named-word, spaces_named-word, target_named-word}
+use Rattle.rules_json.specs.Spelling.{tableau_tree, cells_tree, reserve_tree, redeals_tree, stock_tree, goal_key}
+use Rattle.rules_json.specs.Spelling.{goal_tree, common_parts, rules_tree}
+use Rattle.rules_json.proofs.Named.{layout_named-word, face_named-word, build_named-word, groups_named-word}
+use Rattle.rules_json.proofs.Named.{spaces_named-word, target_named-word}
 
 least : (n : ℕ) → nat_le 0 n ≡ true
 least n = grind (arith, nat_tests)
 
 tableau_of-tree : (rules : RuleParts) → nat_le rules.piles 20 ≡ true
     → tableau_of (Some (tableau_tree rules))
-    ≡ Ok (record { piles = rules.piles; layout = rules.layout; face = rules.face; build = rules.build; wrap = rules.wrap; groups = rules.groups; group_build = rules.group_build; spaces = rules.spaces })
+    ≡ Ok (record {
+      piles = rules.piles;
+      layout = rules.layout;
+      face = rules.face;
+      build = rules.build;
+      wrap = rules.wrap;
+      groups = rules.groups;
+      group_build = rules.group_build;
+      spaces = rules.spaces;
+    })
 unfolding tableau_of
 tableau_of-tree rules few =
-    rw (least rules.piles, few, layout_named-word rules.layout, face_named-word rules.face, build_named-word rules.build, groups_named-word rules.groups, build_named-word rules.group_build, spaces_named-word rules.spaces) refl
+    rw (
+      least rules.piles,
+      few,
+      layout_named-word rules.layout,
+      face_named-word rules.face,
+      build_named-word
+          rules.build,
+      groups_named-word rules.groups,
+      build_named-word rules.group_build,
+      spaces_named-word rules.spaces,
+    )
+    refl
 
 foundations_of-none : foundations_of None ≡ Ok (Foundations 1 false false false)
 unfolding foundations_of
 foundations_of-none = refl
 
 foundations_of-tree : (base : ℕ) (started take_back complete_runs : Bool) → nat_le 1 base ≡ true → nat_le base 13 ≡ true
-    → foundations_of (Some (goal_tree (Foundations base started take_back complete_runs))) ≡ Ok (Foundations base started take_back complete_runs)
+    → foundations_of (Some (goal_tree (Foundations base started take_back complete_runs)))
+    ≡ Ok (Foundations base started take_back complete_runs)
 unfolding foundations_of
 foundations_of-tree base started take_back complete_runs low high = rw (low, high) refl
 
@@ -69,8 +94,10 @@ redeals-tree : (times : Redeals) → are_redeals_within times ≡ true → redea
 redeals-tree (Times n) few = rw (least n, few) refl
 redeals-tree Unlimited few = refl
 
-stock_of-tree : (rules : RuleParts) → nat_le rules.stock 84 ≡ true → nat_le 1 rules.draw ≡ true → nat_le rules.draw 10 ≡ true → are_redeals_within rules.redeals ≡ true
-    → stock_of (Some (stock_tree rules)) ≡ Ok (record { size = rules.stock; target = rules.target; draw = rules.draw; redeals = rules.redeals })
+stock_of-tree : (rules : RuleParts) → nat_le rules.stock 84 ≡ true → nat_le 1 rules.draw ≡ true
+    → nat_le rules.draw 10 ≡ true → are_redeals_within rules.redeals ≡ true
+    → stock_of (Some (stock_tree rules))
+    ≡ Ok (record { size = rules.stock; target = rules.target; draw = rules.draw; redeals = rules.redeals })
 unfolding stock_of
 stock_of-tree rules few some most times =
     rw (least rules.stock, few, target_named-word rules.target, some, most, redeals-tree rules.redeals times) refl
@@ -99,16 +126,20 @@ within_of rules playable =
     let draw = both (nat_le 1 rules.draw) (nat_le rules.draw 10) n.draw in
     grind (arith, n, decks, rank, draw)
 
-top_of-tree : (rules : RuleParts) (goal : Goal) → nat_le 1 rules.decks ≡ true → nat_le rules.decks 2 ≡ true → nat_le 1 rules.max_rank ≡ true → nat_le rules.max_rank 13 ≡ true
-    → top_of (object (put (goal_key goal) (goal_tree goal) (common_parts rules))) ≡ Ok (record { decks = rules.decks; max_rank = rules.max_rank })
+top_of-tree : (rules : RuleParts) (goal : Goal) → nat_le 1 rules.decks ≡ true → nat_le rules.decks 2 ≡ true
+    → nat_le 1 rules.max_rank ≡ true → nat_le rules.max_rank 13 ≡ true
+    → top_of (object (put (goal_key goal) (goal_tree goal) (common_parts rules)))
+    ≡ Ok (record { decks = rules.decks; max_rank = rules.max_rank })
 unfolding top_of
 top_of-tree rules (Foundations base started take_back complete_runs) a b c d = rw (a, b, c, d) refl
 top_of-tree rules (Hole wrap start) a b c d = rw (a, b, c, d) refl
 top_of-tree rules Sequences a b c d = rw (a, b, c, d) refl
 
 -- The goal is a variable here, so that the place of its part can be found by cases.
-parts_of_tree-goal : (rules : RuleParts) (goal : Goal) → AreWithin rules → is_base_within goal ≡ true → HasNamedStart goal
-    → parts_of_tree (object (put (goal_key goal) (goal_tree goal) (common_parts rules))) ≡ Ok (record rules { goal = goal })
+parts_of_tree-goal : (rules : RuleParts) (goal : Goal) → AreWithin rules → is_base_within goal ≡ true
+    → HasNamedStart goal
+    → parts_of_tree (object (put (goal_key goal) (goal_tree goal) (common_parts rules)))
+    ≡ Ok (record rules { goal = goal })
 unfolding parts_of_tree
 parts_of_tree-goal rules (Foundations base started take_back complete_runs) h within named =
     let limits = both _ _ within in
@@ -145,8 +176,10 @@ parts_of_tree-goal rules Sequences h within named =
       stock_of-tree rules h.stock h.some_draw h.draw h.redeals,
     ) refl
 
-pub rules_of_tree-tree : (rules : RuleParts) → IsPlayable rules → HasNamedStart rules.goal → rules_of_tree (rules_tree rules) ≡ Ok rules
+pub rules_of_tree-tree : (rules : RuleParts) → IsPlayable rules → HasNamedStart rules.goal
+    → rules_of_tree (rules_tree rules) ≡ Ok rules
 rules_of_tree-tree rules playable named =
     let within = within_of rules playable in
-    ap (λ r. r >>= λ parts. or_conflict parts (first_conflict parts)) (parts_of_tree-goal rules rules.goal within within.base named)
+    ap (λ r. r >>= λ parts. or_conflict parts (first_conflict parts))
+    (parts_of_tree-goal rules rules.goal within within.base named)
     ∙ ap (or_conflict rules) playable.no_conflict

@@ -5,7 +5,8 @@ use Rattle.json_tree.specs.declared.read.FileFault.TheVariants as file
 use Rattle.rules_json.specs.declared.fault.RulePart.{RulePart}
 use Rattle.rules_json.specs.declared.fault.RulePart.TheVariants as part
 use Rattle.rules_json.specs.declared.fault.RulesFault.{RulesFault}
-use Rattle.rules_json.specs.declared.fault.RulesFault.TheVariants.{TooLong, NotJson, NotObject, UnknownKey, WrongType, BadValue, Conflict, Memory}
+use Rattle.rules_json.specs.declared.fault.RulesFault.TheVariants.{TooLong, NotJson, NotObject, UnknownKey, WrongType}
+use Rattle.rules_json.specs.declared.fault.RulesFault.TheVariants.{BadValue, Conflict, Memory}
 
 -- how a part is printed
 abbrev pub part_text : RulePart → List ℕ

@@ -19,13 +19,15 @@ use Rattle.rules_json.specs.declared.parts.TableauKeys.{TableauKeys}
 use Rattle.rules_json.specs.declared.parts.CellsKeys.{CellsKeys}
 use Rattle.rules_json.specs.declared.parts.ReserveKeys.{ReserveKeys}
 use Rattle.rules_json.specs.declared.parts.StockKeys.{StockKeys}
-use Rattle.rules_json.specs.Words.{layout_named, face_named, build_named, groups_named, spaces_named, target_named, start_named}
+use Rattle.rules_json.specs.Words.{layout_named, face_named, build_named, groups_named, spaces_named}
+use Rattle.rules_json.specs.Words.{target_named, start_named}
 use Rattle.rules_json.specs.Values.{part_with, number, truth, word, redeals}
 
 -- the whole object: two numbers, and the other parts
 unfoldable pub top_of : Data → Result TopKeys RulesFault
 top_of top = do
-  _ ← part_with part.Top (codes "decks" ∷ codes "max rank" ∷ codes "tableau" ∷ codes "foundations" ∷ codes "hole" ∷ codes "sequences" ∷ codes "cells" ∷ codes "reserve" ∷ codes "stock" ∷ []) (Some top)
+  _ ← part_with part.Top (codes "decks" ∷ codes "max rank" ∷ codes "tableau" ∷ codes "foundations" ∷ codes "hole"
+      ∷ codes "sequences" ∷ codes "cells" ∷ codes "reserve" ∷ codes "stock" ∷ []) (Some top)
   decks ← number part.Top 1 2 1 (field (Some top) (codes "decks"))
   max_rank ← number part.Top 1 13 13 (field (Some top) (codes "max rank"))
   Ok (record { decks = decks; max_rank = max_rank })
@@ -33,7 +35,8 @@ top_of top = do
 -- the piles: how they are laid out, how cards build, which groups move, and what fills a space
 unfoldable pub tableau_of : Option Data → Result TableauKeys RulesFault
 tableau_of tableau = do
-  _ ← part_with part.Tableau (codes "piles" ∷ codes "layout" ∷ codes "face" ∷ codes "build" ∷ codes "wrap" ∷ codes "groups" ∷ codes "group build" ∷ codes "spaces" ∷ []) tableau
+  _ ← part_with part.Tableau (codes "piles" ∷ codes "layout" ∷ codes "face" ∷ codes "build" ∷ codes "wrap"
+      ∷ codes "groups" ∷ codes "group build" ∷ codes "spaces" ∷ []) tableau
   piles ← number part.Tableau 0 20 0 (field tableau (codes "piles"))
   layout ← word part.Tableau layout_named Even (field tableau (codes "layout"))
   face ← word part.Tableau face_named AllUp (field tableau (codes "face"))
@@ -42,12 +45,22 @@ tableau_of tableau = do
   groups ← word part.Tableau groups_named One (field tableau (codes "groups"))
   group_build ← word part.Tableau build_named build (field tableau (codes "group build"))
   spaces ← word part.Tableau spaces_named Any (field tableau (codes "spaces"))
-  Ok (record { piles = piles; layout = layout; face = face; build = build; wrap = wrap; groups = groups; group_build = group_build; spaces = spaces })
+  Ok (record {
+    piles = piles;
+    layout = layout;
+    face = face;
+    build = build;
+    wrap = wrap;
+    groups = groups;
+    group_build = group_build;
+    spaces = spaces;
+  })
 
 -- the goal Foundations, and how they are filled
 unfoldable pub foundations_of : Option Data → Result Goal RulesFault
 foundations_of foundations = do
-  _ ← part_with part.Foundations (codes "base" ∷ codes "started" ∷ codes "take back" ∷ codes "complete runs" ∷ []) foundations
+  _ ← part_with part.Foundations
+      (codes "base" ∷ codes "started" ∷ codes "take back" ∷ codes "complete runs" ∷ []) foundations
   base ← number part.Foundations 1 13 1 (field foundations (codes "base"))
   started ← truth part.Foundations false (field foundations (codes "started"))
   take_back ← truth part.Foundations false (field foundations (codes "take back"))

@@ -1,5 +1,6 @@
 -- The rules that a file gives, or the first of its faults.
-use Rattle.std.specs.Prelude.{ℕ, ◌&&◌, ◌||◌, List, Bool, Option, Some, None, Result, Ok, Err, codes, if◌then◌else◌, is_some}
+use Rattle.std.specs.Prelude.{ℕ, ◌&&◌, ◌||◌, List, Bool, Option, Some, None, Result, Ok, Err, codes}
+use Rattle.std.specs.Prelude.{if◌then◌else◌, is_some}
 use Rattle.std.specs.Result.{result_map_both}
 use Rattle.serde_json.specs.Data.{Data}
 use Rattle.serde_json.specs.Find.{get}
@@ -12,12 +13,14 @@ use Rattle.game_rules.specs.Conflicts.{first_conflict}
 use Rattle.rules_json.specs.declared.fault.RulesFault.{RulesFault}
 use Rattle.rules_json.specs.declared.fault.RulesFault.TheVariants.{Conflict}
 use Rattle.rules_json.specs.Faults.{of_file}
-use Rattle.rules_json.specs.Parts.{top_of, tableau_of, foundations_of, hole_of, sequences_of, cells_of, reserve_of, stock_of}
+use Rattle.rules_json.specs.Parts.{top_of, tableau_of, foundations_of, hole_of, sequences_of, cells_of}
+use Rattle.rules_json.specs.Parts.{reserve_of, stock_of}
 
 -- the goal of the part that is there, or Foundations; two such parts are the first conflict
 abbrev pub chosen_goal : Bool → Bool → Bool → Goal → Goal → Result Goal RulesFault
 chosen_goal has_foundations has_hole has_sequences foundations hole =
-    if (has_foundations && has_hole) || (has_foundations && has_sequences) || (has_hole && has_sequences) then Err (Conflict 1) else
+    if (has_foundations && has_hole) || (has_foundations && has_sequences) || (has_hole && has_sequences)
+    then Err (Conflict 1) else
     if has_hole then Ok hole else
     if has_sequences then Ok Sequences else Ok foundations
 
@@ -32,7 +35,8 @@ parts_of_tree top = do
   cells ← cells_of (get (codes "cells") top)
   reserve ← reserve_of (get (codes "reserve") top)
   stock ← stock_of (get (codes "stock") top)
-  goal ← chosen_goal (is_some (get (codes "foundations") top)) (is_some (get (codes "hole") top)) (is_some (get (codes "sequences") top)) foundations hole
+  goal ← chosen_goal (is_some (get (codes "foundations") top)) (is_some (get (codes "hole") top))
+      (is_some (get (codes "sequences") top)) foundations hole
   Ok (record {
     decks = numbers.decks;
     max_rank = numbers.max_rank;

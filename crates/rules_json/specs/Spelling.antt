@@ -7,7 +7,8 @@ use Rattle.game_rules.specs.declared.Goal.{Goal}
 use Rattle.game_rules.specs.declared.Goal.TheVariants.{Foundations, Hole, Sequences}
 use Rattle.game_rules.specs.declared.Redeals.{Redeals}
 use Rattle.game_rules.specs.declared.Redeals.TheVariants.{Times, Unlimited}
-use Rattle.rules_json.specs.Words.{layout_word, face_word, build_word, groups_word, spaces_word, target_word, start_word}
+use Rattle.rules_json.specs.Words.{layout_word, face_word, build_word, groups_word, spaces_word}
+use Rattle.rules_json.specs.Words.{target_word, start_word}
 
 -- the part `tableau` with all its keys
 abbrev pub tableau_tree : RuleParts → Data

@@ -1,5 +1,6 @@
 -- The values of a part. Each gives what it stands for, its default where it is absent, or its fault.
-use Rattle.std.specs.Prelude.{ℕ, ◌&&◌, List, Bool, nat_le, Option, Some, None, Result, Ok, Err, codes, if◌then◌else◌, is_some, ⊤}
+use Rattle.std.specs.Prelude.{ℕ, ◌&&◌, List, Bool, nat_le, Option, Some, None, Result, Ok, Err, codes, if◌then◌else◌}
+use Rattle.std.specs.Prelude.{is_some, ⊤}
 use Rattle.std.specs.Str.{bytes_eq}
 use Rattle.serde_json.specs.Data.{Data}
 use Rattle.serde_json.specs.Find.{as_str, as_bool, as_object}
@@ -26,7 +27,8 @@ or_bad_value part (Some x) = Ok x
 abbrev pub part_with : RulePart → List (List ℕ) → Option Data → Result ⊤ RulesFault
 part_with part keys None = Ok tt
 part_with part keys (Some d) =
-    if is_some (as_object d) then (if has_only_keys keys d then Ok tt else Err (UnknownKey part)) else Err (WrongType part)
+    if is_some (as_object d) then (if has_only_keys keys d then Ok tt else Err (UnknownKey part))
+    else Err (WrongType part)
 
 -- a number from low to high
 abbrev pub number_within : RulePart → ℕ → ℕ → ℕ → Result ℕ RulesFault

@@ -1,7 +1,10 @@
 //! The parts of a rules file, each with its keys in order.
 ghost use Rattle.std.specs.Prelude.{◌≡◌, option_map};
 ghost use Rattle.serde_json.specs.View.{view};
-ghost use Rattle.rules_json.specs.Parts.{top_of as top_part, tableau_of as tableau_part, foundations_of as foundations_part, hole_of as hole_part, sequences_of as sequences_part, cells_of as cells_part, reserve_of as reserve_part, stock_of as stock_part};
+ghost use Rattle.rules_json.specs.Parts.{top_of as top_part, tableau_of as tableau_part};
+ghost use Rattle.rules_json.specs.Parts.{foundations_of as foundations_part, hole_of as hole_part};
+ghost use Rattle.rules_json.specs.Parts.{sequences_of as sequences_part, cells_of as cells_part};
+ghost use Rattle.rules_json.specs.Parts.{reserve_of as reserve_part, stock_of as stock_part};
 
 use crate::values::{check_part, number, redeals, truth, word};
 use crate::{RulePart, RulesFault};

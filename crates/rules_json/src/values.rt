@@ -1,7 +1,8 @@
 //! The values of a part, each with the faults that it may have.
 ghost use Rattle.std.specs.Prelude.{◌≡◌, ℕ, map, option_map};
 ghost use Rattle.serde_json.specs.View.{view};
-ghost use Rattle.rules_json.specs.Values.{part_with, number as number_of, truth as truth_of, word as word_of, redeals as redeals_of, number_within as number_within_of};
+ghost use Rattle.rules_json.specs.Values.{part_with, number as number_of, truth as truth_of, word as word_of};
+ghost use Rattle.rules_json.specs.Values.{redeals as redeals_of, number_within as number_within_of};
 
 use crate::words::Word;
 use crate::{RulePart, RulesFault};

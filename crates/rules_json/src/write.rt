@@ -3,7 +3,11 @@ ghost use Rattle.std.specs.Prelude.{◌≡◌, IfOk, Ok, Some};
 ghost use Rattle.serde_json.specs.Data.{string};
 ghost use Rattle.serde_json.specs.View.{view, members_view};
 ghost use Rattle.rules_json.specs.RulesFile.{rules_of};
-ghost use Rattle.rules_json.specs.Spelling.{rules_text, rules_tree, tableau_tree as tableau_tree_of, cells_tree as cells_tree_of, reserve_tree as reserve_tree_of, redeals_tree as redeals_tree_of, stock_tree as stock_tree_of, goal_key as goal_key_of, goal_tree as goal_tree_of, common_parts as common_parts_of};
+ghost use Rattle.rules_json.specs.Spelling.{rules_text, rules_tree, tableau_tree as tableau_tree_of};
+ghost use Rattle.rules_json.specs.Spelling.{cells_tree as cells_tree_of, reserve_tree as reserve_tree_of};
+ghost use Rattle.rules_json.specs.Spelling.{redeals_tree as redeals_tree_of, stock_tree as stock_tree_of};
+ghost use Rattle.rules_json.specs.Spelling.{goal_key as goal_key_of, goal_tree as goal_tree_of};
+ghost use Rattle.rules_json.specs.Spelling.{common_parts as common_parts_of};
 ghost use Rattle.rules_json.specs.Words.{start_named, start_word, HasNamedStart};
 
 use crate::words::{build_word, face_word, groups_word, layout_word, spaces_word, target_word};

@@ -1,5 +1,6 @@
 -- What the places of a board give.
-use Rattle.std.proofs.Common.{◌≡◌, ℕ, ◌+◌, ◌-◌, ◌<◌, ◌≤◌, Bool, true, false, ◌&&◌, List, [], ◌∷◌, length, refl, ap, sym, ◌∙◌, arith}
+use Rattle.std.proofs.Common.{◌≡◌, ℕ, ◌+◌, ◌-◌, ◌<◌, ◌≤◌, Bool, true, false, ◌&&◌, List, [], ◌∷◌, length, refl, ap, sym}
+use Rattle.std.proofs.Common.{◌∙◌, arith}
 use Rattle.std.specs.Prelude.{IsTrue, Option, Some, None, is_some, nat_lt, nat_le, ◌==◌, slice_get}
 use Rattle.std.specs.Option.{option_to_list}
 use Rattle.std.proofs.lemmas.Bool.{and_from, le-leb, ltb-true}
@@ -27,11 +28,13 @@ entry-gives false card entry h = cc
 
 pub gives-cell : (rules : RuleParts) (board : Board) (card : Card) (i : ℕ) → IsTrue (has_place rules board (Cell i))
     → gives rules board card (Cell i) ≡ holds card (single_at rules board (Cell i))
-gives-cell rules board card i here = entry-gives (has_place rules board (Cell i)) card (single_at rules board (Cell i)) here
+gives-cell rules board card i here = entry-gives (has_place rules board (Cell i)) card
+    (single_at rules board (Cell i)) here
 
 pub gives-entry : (rules : RuleParts) (board : Board) (card : Card) (i : ℕ) → IsTrue (has_place rules board (Reserve i))
     → gives rules board card (Reserve i) ≡ holds card (single_at rules board (Reserve i))
-gives-entry rules board card i here = entry-gives (has_place rules board (Reserve i)) card (single_at rules board (Reserve i)) here
+gives-entry rules board card i here = entry-gives (has_place rules board (Reserve i)) card
+    (single_at rules board (Reserve i)) here
 
 -- a pile gives its top
 and-false : (b : Bool) → (b && false) ≡ false
@@ -42,14 +45,16 @@ single_run : (rules : RuleParts) (entry : Option Card) → is_run rules (option_
 single_run rules None = refl
 single_run rules (Some card) = refl
 
-pile_gives-one : (rules : RuleParts) (pile : Pile) → pile.face_down ≤ length pile.cards - 1 → 0 < length pile.cards → pile_gives rules pile 1 ≡ true
+pile_gives-one : (rules : RuleParts) (pile : Pile) → pile.face_down ≤ length pile.cards - 1 → 0 < length pile.cards
+    → pile_gives rules pile 1 ≡ true
 pile_gives-one rules pile up some =
     let enough : nat_le (pile.face_down + 1) (length pile.cards) ≡ true = le-leb _ _ (omega (arith, up, some)) in
     and_from _ _ (and_from _ _ (and_from (nat_lt 0 1) _ refl enough) refl)
     (ap (is_run rules) (drop_last pile.cards) ∙ single_run rules (top_of pile.cards))
 
 top-gives : (rules : RuleParts) (cards : List Card) (down : ℕ) (card : Card) → down ≤ length cards - 1
-    → (pile_gives rules (record { cards = cards; face_down = down }) 1 && holds card (slice_get (top_part 1 cards) 0)) ≡ holds card (top_of cards)
+    → (pile_gives rules (record { cards = cards; face_down = down }) 1 && holds card (slice_get (top_part 1 cards) 0))
+    ≡ holds card (top_of cards)
 top-gives rules [] down card up = and-false (pile_gives rules (record { cards = []; face_down = down }) 1)
 top-gives rules (x ∷ xs) down card up =
     let held : Bool = holds card (slice_get (top_part 1 (x ∷ xs)) 0) in
@@ -61,11 +66,13 @@ where_it_is : (here takes held : Bool) → here ≡ true → (here && takes && h
 where_it_is true takes held h = refl
 where_it_is false takes held h = cc
 
-pub gives-pile : (rules : RuleParts) (board : Board) (card : Card) (i : ℕ) → Belongs rules board → IsTrue (has_place rules board (Tableau i))
+pub gives-pile : (rules : RuleParts) (board : Board) (card : Card) (i : ℕ) → Belongs rules board
+    → IsTrue (has_place rules board (Tableau i))
     → gives rules board card (Tableau i) ≡ holds card (top_of (pile_at board i).cards)
 gives-pile rules board card i belongs here =
     let pile : Pile = pile_at board i in
-    where_it_is (has_place rules board (Tableau i)) (pile_gives rules pile 1) (holds card (slice_get (top_part 1 pile.cards) 0)) here
+    where_it_is (has_place rules board (Tableau i)) (pile_gives rules pile 1)
+    (holds card (slice_get (top_part 1 pile.cards) 0)) here
     ∙ top-gives rules pile.cards pile.face_down card (face_up rules board i belongs here)
 
 -- a place that the board does not have gives nothing
@@ -73,7 +80,9 @@ nowhere : (here takes held : Bool) → here ≡ false → (here && takes && held
 nowhere true takes held h = cc
 nowhere false takes held h = refl
 
-pub gives-nowhere : (rules : RuleParts) (board : Board) (card : Card) (from : Place) → has_place rules board from ≡ false
+pub gives-nowhere : (rules : RuleParts) (board : Board) (card : Card) (from : Place)
+    → has_place rules board from ≡ false
     → gives rules board card from ≡ false
 gives-nowhere rules board card from h =
-    nowhere (has_place rules board from) (can_take rules board from 1) (holds card (slice_get (taken rules board from 1) 0)) h
+    nowhere (has_place rules board from) (can_take rules board from 1)
+    (holds card (slice_get (taken rules board from 1) 0)) h

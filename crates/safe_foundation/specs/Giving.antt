@@ -1,5 +1,6 @@
 -- The card that a foundation takes next, and the places that give a card.
-use Rattle.std.specs.Prelude.{◌≡◌, ℕ, ◌<◌, Bool, true, false, ◌&&◌, nat_lt, IsTrue, Option, Some, None, MatchOption, slice_get, if◌then◌else◌}
+use Rattle.std.specs.Prelude.{◌≡◌, ℕ, ◌<◌, Bool, true, false, ◌&&◌, nat_lt, IsTrue, Option, Some, None, MatchOption}
+use Rattle.std.specs.Prelude.{slice_get, if◌then◌else◌}
 use Rattle.card_piles.specs.declared.Card.{Card}
 use Rattle.game_rules.specs.declared.RuleParts.{RuleParts}
 use Rattle.game_rules.specs.declared.Place.{Place}
@@ -36,12 +37,14 @@ IsLeast test found =
 pub record IsFirstPlace (rules : RuleParts) (board : Board) (card : Card) (from : Place) : Type 0 where
   pub safely : IsTrue (gives_safely from)
   pub here : gives rules board card from ≡ true
-  pub first : (p : Place) → IsTrue (gives_safely p) → IsTrue (is_place_before source_rank p from) → gives rules board card p ≡ false
+  pub first : (p : Place) → IsTrue (gives_safely p) → IsTrue (is_place_before source_rank p from)
+      → gives rules board card p ≡ false
 
 -- the first place that gives the card to be forced, if one does
 abbrev pub IsFirstGiving : RuleParts → Board → Card → Option Place → Type 0
 IsFirstGiving rules board card found =
-    MatchOption found ((p : Place) → IsTrue (gives_safely p) → gives rules board card p ≡ false) (IsFirstPlace rules board card)
+    MatchOption found ((p : Place) → IsTrue (gives_safely p) → gives rules board card p ≡ false)
+    (IsFirstPlace rules board card)
 
 -- the first place that gives the card which a foundation takes next, if that card is not needed
 abbrev pub IsFirstOnto : RuleParts → Board → ℕ → Option Place → Type 0

@@ -1,5 +1,6 @@
 -- What it means that a card is home, and how often a card stands on a board from which it can be taken.
-use Rattle.std.proofs.Common.{inl, inr, ◌≡◌, ℕ, ◌+◌, ◌-◌, ◌<◌, ◌≤◌, suc, zero, Bool, true, ◌||◌, cond, List, [], ◌∷◌, map, length, refl, ap, sym, ◌∙◌, subst, get_or, arith}
+use Rattle.std.proofs.Common.{inl, inr, ◌≡◌, ℕ, ◌+◌, ◌-◌, ◌<◌, ◌≤◌, suc, zero, Bool, true, ◌||◌, cond, List, [], ◌∷◌}
+use Rattle.std.proofs.Common.{map, length, refl, ap, sym, ◌∙◌, subst, get_or, arith}
 use Rattle.std.specs.Prelude.{IsTrue, ◌==◌}
 use Rattle.std.specs.List.{list_all, list_any, range_with_len, enumerate_from, count_by, flat_map}
 use Rattle.std.proofs.lemmas.List.FromFn.{length-enumerate_from, get_or-enumerate_from}
@@ -57,7 +58,8 @@ all_in_range p a (suc n) zero h here = subst (λ (j : ℕ). p j ≡ true) (omega
 all_in_range p a (suc n) (suc k) h here =
     subst (λ (j : ℕ). p j ≡ true) (omega arith) (all_in_range p (a + 1) n k (both (p a) _ h).1 (omega arith))
 
-pub all_in_flat_map : {A : Type 0} (p : A → Bool) (f : ℕ → List A) (a n k : ℕ) → list_all p (flat_map f (range_with_len a n)) ≡ true
+pub all_in_flat_map : {A : Type 0} (p : A → Bool) (f : ℕ → List A) (a n k : ℕ)
+    → list_all p (flat_map f (range_with_len a n)) ≡ true
     → k < n → list_all p (f (a + k)) ≡ true
 all_in_flat_map p f a zero k h here = absurd (omega arith)
 all_in_flat_map p f a (suc n) zero h here =
@@ -66,7 +68,8 @@ all_in_flat_map p f a (suc n) zero h here =
 all_in_flat_map p f a (suc n) (suc k) h here =
     subst (λ (j : ℕ). list_all p (f j) ≡ true) (omega arith)
     (all_in_flat_map p f (a + 1) n k
-    (both (list_all p (f a)) _ (sym (list_all-append p (f a) (flat_map f (range_with_len (a + 1) n))) ∙ h)).1 (omega arith))
+    (both (list_all p (f a)) _ (sym (list_all-append p (f a) (flat_map f (range_with_len (a + 1) n))) ∙ h)).1
+    (omega arith))
 
 -- a card of a deck
 suit-by_place : (s : Suit) → suit_at (place_of s) ≡ s
@@ -81,15 +84,20 @@ few_suits Diamonds = omega arith
 few_suits Hearts = omega arith
 few_suits Spades = omega arith
 
-pub all_of_deck : (p : Card → Bool) (max_rank : ℕ) (card : Card) → list_all p (deck_of max_rank) ≡ true → 1 ≤ card.rank → card.rank ≤ max_rank
+pub all_of_deck : (p : Card → Bool) (max_rank : ℕ) (card : Card) → list_all p (deck_of max_rank) ≡ true → 1 ≤ card.rank
+    → card.rank ≤ max_rank
     → p card ≡ true
 all_of_deck p max_rank card h low high =
-    let of_suit : ℕ → List Card = λ suit. map (λ rank. record { suit = suit_at suit; rank = rank }) (range_with_len 1 max_rank) in
+    let of_suit : ℕ → List Card = λ suit. map (λ rank. record { suit = suit_at suit; rank = rank })
+    (range_with_len 1 max_rank) in
     let suits = all_in_flat_map p of_suit 0 4 (place_of card.suit) h (few_suits card.suit) in
-    let mapped : list_all (λ rank. p (record { suit = suit_at (0 + place_of card.suit); rank = rank })) (range_with_len 1 max_rank) ≡ true
-    = sym (list_all-map p (λ (rank : ℕ). record { suit = suit_at (0 + place_of card.suit); rank = rank }) (range_with_len 1 max_rank)) ∙ suits in
+    let mapped : list_all (λ rank. p (record { suit = suit_at (0 + place_of card.suit); rank = rank }))
+    (range_with_len 1 max_rank) ≡ true
+    = sym (list_all-map p (λ (rank : ℕ). record { suit = suit_at (0 + place_of card.suit); rank = rank })
+    (range_with_len 1 max_rank)) ∙ suits in
     let at_rank : p (record { suit = suit_at (0 + place_of card.suit); rank = 1 + (card.rank - 1) }) ≡ true
-    = all_in_range (λ rank. p (record { suit = suit_at (0 + place_of card.suit); rank = rank })) 1 max_rank (card.rank - 1) mapped (omega arith) in
+    = all_in_range (λ rank. p (record { suit = suit_at (0 + place_of card.suit); rank = rank })) 1 max_rank
+    (card.rank - 1) mapped (omega arith) in
     let same_rank : 1 + (card.rank - 1) ≡ card.rank = omega arith in
     let same_place : 0 + place_of card.suit ≡ place_of card.suit = omega arith in
     let suit : suit_at (0 + place_of card.suit) ≡ card.suit = ap suit_at same_place ∙ suit-by_place card.suit in
@@ -97,7 +105,8 @@ all_of_deck p max_rank card h low high =
     (subst (λ (r : ℕ). p (record { suit = suit_at (0 + place_of card.suit); rank = r }) ≡ true) same_rank at_rank)
 
 -- cards of a deck with one number are one card
-same_card-by_number : (a b : Card) → 1 ≤ a.rank → a.rank ≤ 13 → 1 ≤ b.rank → b.rank ≤ 13 → number_of b ≡ number_of a → same_card a b ≡ true
+same_card-by_number : (a b : Card) → 1 ≤ a.rank → a.rank ≤ 13 → 1 ≤ b.rank → b.rank ≤ 13 → number_of b ≡ number_of a
+    → same_card a b ≡ true
 same_card-by_number a b la ha lb hb h =
     let suits : place_of a.suit ≡ place_of b.suit = omega arith in
     let ranks : a.rank ≡ b.rank = omega arith in
@@ -130,9 +139,12 @@ pub record HomeAt (rules : RuleParts) (board : Board) (card : Card) : Type 0 whe
   pub within : f < length board.heights
   pub holds : list_any (λ c. number_of c == number_of card) (foundation_cards rules f (height_at board f)) ≡ true
 
-pub home_at : (rules : RuleParts) (board : Board) (card : Card) → IsTrue (is_home rules board card) → HomeAt rules board card
+pub home_at : (rules : RuleParts) (board : Board) (card : Card) → IsTrue (is_home rules board card)
+    → HomeAt rules board card
 home_at rules board card h =
-    let found = found-from_any (λ f. list_any (λ c. number_of c == number_of card) (foundation_cards rules f (height_at board f))) 0 (length board.heights) h in
+    let found = found-from_any
+    (λ f. list_any (λ c. number_of c == number_of card) (foundation_cards rules f (height_at board f))) 0
+    (length board.heights) h in
     record { f = 0 + found.k; within = (let l = found.here in omega arith); holds = found.passes }
 
 pub home-counted : (rules : RuleParts) (board : Board) (card : Card) → HasLimits rules → 1 ≤ card.rank → card.rank ≤ 13
@@ -141,15 +153,18 @@ home-counted rules board card limits low high h =
     let at = home_at rules board card h in
     let count : (ℕ × ℕ) → ℕ = λ f. copies_of card (foundation_cards rules f.0 f.1) in
     let some : 1 ≤ copies_of card (foundation_cards rules at.f (height_at board at.f))
-    = count_some (same_card card) (λ c. number_of c == number_of card) (foundation_card rules at.f) 0 (height_at board at.f)
-    (λ j e. same_card-by_number card (foundation_card rules at.f j) low high (rank_low rules j) (rank_high rules j limits) (eqb-true _ _ e))
+    = count_some (same_card card) (λ c. number_of c == number_of card) (foundation_card rules at.f) 0
+    (height_at board at.f)
+    (λ j e. same_card-by_number card (foundation_card rules at.f j) low high (rank_low rules j)
+    (rank_high rules j limits) (eqb-true _ _ e))
     at.holds in
     let within : at.f < length (enumerate_from 0 board.heights) = rw length-enumerate_from at.within in
     let part = get_or-le-sum_by count (enumerate_from 0 board.heights) at.f (0, 0) within in
     let entry : get_or (enumerate_from 0 board.heights) at.f (0, 0) ≡ (0 + at.f, height_at board at.f)
     = get_or-enumerate_from 0 board.heights at.f (0, 0) at.within in
     let plain : 0 + at.f ≡ at.f = omega arith in
-    let same : count (get_or (enumerate_from 0 board.heights) at.f (0, 0)) ≡ copies_of card (foundation_cards rules at.f (height_at board at.f))
+    let same : count (get_or (enumerate_from 0 board.heights) at.f (0, 0)) ≡ copies_of card
+    (foundation_cards rules at.f (height_at board at.f))
     = ap count entry ∙ ap (λ (f : ℕ). copies_of card (foundation_cards rules f (height_at board at.f))) plain in
     omega (arith, part, some, same)
 
@@ -158,7 +173,8 @@ pub record Raised (a b : Board) : Type 0 where
   pub many : length a.heights ≡ length b.heights
   pub heights : (f : ℕ) → height_at a f ≤ height_at b f
 
-pub any_of_map : {A : Type 0} (q : A → Bool) (g : ℕ → A) (js : List ℕ) → list_any q (map g js) ≡ list_any (λ j. q (g j)) js
+pub any_of_map : {A : Type 0} (q : A → Bool) (g : ℕ → A) (js : List ℕ)
+    → list_any q (map g js) ≡ list_any (λ j. q (g j)) js
 any_of_map q g [] = refl
 any_of_map q g (j ∷ js) = ap (λ b. q (g j) || b) (any_of_map q g js)
 
@@ -166,15 +182,20 @@ any_longer : {A : Type 0} (q : A → Bool) (g : ℕ → A) (n m : ℕ) → n ≤
     → list_any q (map g (range_with_len 0 m)) ≡ true
 any_longer q g n m le h =
     let found = found-from_any (λ j. q (g j)) 0 n (sym (any_of_map q g (range_with_len 0 n)) ∙ h) in
-    any_of_map q g (range_with_len 0 m) ∙ any-from_found (λ j. q (g j)) 0 m found.k (let l = found.here in omega arith) found.passes
+    any_of_map q g (range_with_len 0 m) ∙ any-from_found (λ j. q (g j)) 0 m found.k
+    (let l = found.here in omega arith) found.passes
 
-pub home-raised : (rules : RuleParts) (a b : Board) (card : Card) → Raised a b → IsTrue (is_home rules a card) → IsTrue (is_home rules b card)
+pub home-raised : (rules : RuleParts) (a b : Board) (card : Card) → Raised a b → IsTrue (is_home rules a card)
+    → IsTrue (is_home rules b card)
 home-raised rules a b card up h =
     let at = home_at rules a card h in
-    any-from_found (λ f. list_any (λ c. number_of c == number_of card) (foundation_cards rules f (height_at b f))) 0 (length b.heights) at.f
+    any-from_found (λ f. list_any (λ c. number_of c == number_of card) (foundation_cards rules f (height_at b f))) 0
+    (length b.heights) at.f
     (subst (λ (n : ℕ). at.f < n) up.many at.within)
-    (subst (λ (f : ℕ). list_any (λ c. number_of c == number_of card) (foundation_cards rules f (height_at b f)) ≡ true) (omega arith)
-    (any_longer (λ c. number_of c == number_of card) (foundation_card rules at.f) (height_at a at.f) (height_at b at.f) (up.heights at.f) at.holds))
+    (subst (λ (f : ℕ). list_any (λ c. number_of c == number_of card) (foundation_cards rules f (height_at b f)) ≡ true)
+    (omega arith)
+    (any_longer (λ c. number_of c == number_of card) (foundation_card rules at.f) (height_at a at.f) (height_at b at.f)
+    (up.heights at.f) at.holds))
 
 -- the first of the cards so taken stands on the board
 same_card-self : (card : Card) → same_card card card ≡ true
@@ -187,14 +208,16 @@ first-counted card cards =
     omega (arith, sum_by-cons f card cards, one)
 
 pub taken-counted : (rules : RuleParts) (board : Board) (from : Place) (count : ℕ) (card : Card) (cards : List Card)
-    → IsTrue (has_place rules board from) → IsTrue (can_take rules board from count) → taken rules board from count ≡ card ∷ cards
+    → IsTrue (has_place rules board from) → IsTrue (can_take rules board from count)
+    → taken rules board from count ≡ card ∷ cards
     → 1 ≤ copies_on rules board card
 taken-counted rules board from count card cards here takes e =
     let all = copies-without rules board from count card here takes in
     let some = ap (copies_of card) e in
     omega (arith, all, some, first-counted card cards)
 
-pub heights-without : (rules : RuleParts) (board : Board) (from : Place) (count : ℕ) → IsTrue (is_source from) → (without rules board from count).heights ≡ board.heights
+pub heights-without : (rules : RuleParts) (board : Board) (from : Place) (count : ℕ) → IsTrue (is_source from)
+    → (without rules board from count).heights ≡ board.heights
 heights-without rules board (Tableau i) count s = refl
 heights-without rules board (Cell i) count s = refl
 heights-without rules board (Reserve i) count s = refl
@@ -203,11 +226,13 @@ heights-without rules board (Foundation f) count s = absurd (grind (arith, s))
 heights-without rules board Hole count s = absurd (grind (arith, s))
 heights-without rules board (Slot i) count s = absurd (grind (arith, s))
 
-home-le : (rules : RuleParts) (board : Board) (card : Card) → copies_at_home rules card board.heights ≤ copies_on rules board card
+home-le : (rules : RuleParts) (board : Board) (card : Card)
+    → copies_at_home rules card board.heights ≤ copies_on rules board card
 home-le rules board card = omega arith
 
 -- a card that lies elsewhere and is home as well stands twice
-pub taken_and_home : (rules : RuleParts) (board : Board) (from : Place) (count : ℕ) (card : Card) (cards : List Card) → HasLimits rules
+pub taken_and_home : (rules : RuleParts) (board : Board) (from : Place) (count : ℕ) (card : Card)
+    (cards : List Card) → HasLimits rules
     → IsTrue (is_source from) → IsTrue (has_place rules board from) → IsTrue (can_take rules board from count)
     → taken rules board from count ≡ card ∷ cards
     → 1 ≤ card.rank → card.rank ≤ 13 → IsTrue (is_home rules board card) → 2 ≤ copies_on rules board card

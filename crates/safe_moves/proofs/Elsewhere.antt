@@ -1,6 +1,8 @@
 -- What is at one place stays when cards are moved at others, and moves at different places may change their order.
-use Rattle.std.proofs.Common.{◌≡◌, ◌≢◌, ℕ, ◌+◌, Bool, true, false, ◌&&◌, List, [], ◌∷◌, length, refl, ap, sym, ◌∙◌, get_or-set_other, length-set, arith}
-use Rattle.std.specs.Prelude.{IsTrue, not, Option, None, is_none, is_some, nat_lt, ◌==◌, slice_set, slice_index_or, if◌then◌else◌}
+use Rattle.std.proofs.Common.{◌≡◌, ◌≢◌, ℕ, ◌+◌, Bool, true, false, ◌&&◌, List, [], ◌∷◌, length, refl, ap, sym, ◌∙◌}
+use Rattle.std.proofs.Common.{get_or-set_other, length-set, arith}
+use Rattle.std.specs.Prelude.{IsTrue, not, Option, None, is_none, is_some, nat_lt, ◌==◌, slice_set}
+use Rattle.std.specs.Prelude.{slice_index_or, if◌then◌else◌}
 use Rattle.std.specs.Option.{option_to_list, unwrap_or}
 use Rattle.std.proofs.lemmas.List.{set_comm}
 use Rattle.std.proofs.lemmas.Bool.Decides.{nat_tests}
@@ -9,7 +11,8 @@ use Rattle.game_rules.specs.declared.RuleParts.{RuleParts}
 use Rattle.game_rules.specs.declared.Place.{Place}
 use Rattle.game_rules.specs.declared.Place.TheVariants.{Tableau, Cell, Reserve, Waste, Foundation, Hole, Slot}
 use Rattle.game_rules.specs.Rules.{takes_complete_runs}
-use Rattle.game_rules.specs.Board.{Board, Pile, empty_pile, pile_at, entry_at, height_at, has_place, top_of, top_part, below_top}
+use Rattle.game_rules.specs.Board.{Board, Pile, empty_pile, pile_at, entry_at, height_at, has_place, top_of}
+use Rattle.game_rules.specs.Board.{top_part, below_top}
 use Rattle.game_rules.specs.Taking.{without, pile_without, pile_gives, single_at, can_take, taken}
 use Rattle.game_rules.specs.Putting.{with_cards, can_put, goes_on_pile, is_complete_run, is_next_on}
 use Rattle.game_rules.specs.Play.{same_place}
@@ -58,7 +61,8 @@ same_places (Slot i) (Slot j) h = ap Slot (grind (arith, nat_tests, h))
 same_places p q h = cc
 
 -- what was at i before a write at j is there after it
-kept_other : {A : Type 0} (xs : List A) (i j : ℕ) (x d : A) → (j == i) ≡ false → slice_index_or xs i d ≡ slice_index_or (slice_set xs j x) i d
+kept_other : {A : Type 0} (xs : List A) (i j : ℕ) (x d : A) → (j == i) ≡ false
+    → slice_index_or xs i d ≡ slice_index_or (slice_set xs j x) i d
 kept_other {A = A} xs i j x d h = sym (get_or-set_other xs j i x d (grind (arith, nat_tests)))
 
 kept_reserve : (stacked : Bool) (xs : List (Option Card)) (i j : ℕ) → IsTrue (not stacked) → (j == i) ≡ false
@@ -73,7 +77,8 @@ pub agree-without : (rules : RuleParts) (b : Board) (p q : Place) (k : ℕ) → 
 agree-without rules b p (Slot j) k s apart = tt
 agree-without rules b (Tableau i) (Tableau j) k s apart = kept_other b.piles j i _ empty_pile apart.places
 agree-without rules b (Cell i) (Cell j) k s apart = kept_other b.cells j i _ None apart.places
-agree-without rules b (Reserve i) (Reserve j) k s apart = kept_reserve rules.stacked b.reserve j i apart.reserves apart.places
+agree-without rules b (Reserve i) (Reserve j) k s apart = kept_reserve rules.stacked b.reserve j i
+    apart.reserves apart.places
 agree-without rules b Waste Waste k s apart = absurd (grind (arith, nat_tests, apart.places))
 agree-without rules b (Foundation i) q k s apart = absurd (grind (arith, s))
 agree-without rules b Hole q k s apart = absurd (grind (arith, s))
@@ -92,7 +97,8 @@ agree-with rules b Waste (Tableau j) cards apart = refl
 agree-with rules b (Reserve i) (Reserve j) cards apart = refl
 agree-with rules b p q cards apart = refl
 
-pub agree-trans : (rules : RuleParts) (a b c : Board) (q : Place) → AgreeAt rules a b q → AgreeAt rules b c q → AgreeAt rules a c q
+pub agree-trans : (rules : RuleParts) (a b c : Board) (q : Place) → AgreeAt rules a b q → AgreeAt rules b c q
+    → AgreeAt rules a c q
 agree-trans rules a b c (Slot i) h k = tt
 agree-trans rules a b c q h k = h ∙ k
 
@@ -120,13 +126,16 @@ is_target (Cell i) = true
 is_target (Foundation f) = true
 is_target place = false
 
-pub can_put-agree : (rules : RuleParts) (a b : Board) (q : Place) (cards : List Card) → IsTrue (is_target q) → AgreeAt rules a b q
+pub can_put-agree : (rules : RuleParts) (a b : Board) (q : Place) (cards : List Card) → IsTrue (is_target q)
+    → AgreeAt rules a b q
     → can_put rules a q cards ≡ can_put rules b q cards
 can_put-agree rules a b q [] s h = refl
-can_put-agree rules a b (Tableau i) (card ∷ cards) s h = ap (λ (pile : Pile). goes_on_pile rules (top_of pile.cards) card) h
+can_put-agree rules a b (Tableau i) (card ∷ cards) s h =
+    ap (λ (pile : Pile). goes_on_pile rules (top_of pile.cards) card) h
 can_put-agree rules a b (Cell i) (card ∷ cards) s h = ap (λ e. (length cards == 0) && is_none e) h
 can_put-agree rules a b (Foundation f) (card ∷ cards) s h =
-    ap (λ (n : ℕ). if takes_complete_runs rules.goal then is_complete_run rules f n (card ∷ cards) else (length cards == 0) && is_next_on rules f n card) h
+    ap (λ (n : ℕ). if takes_complete_runs rules.goal then is_complete_run rules f n (card ∷ cards)
+    else (length cards == 0) && is_next_on rules f n card) h
 can_put-agree rules a b q (card ∷ cards) s h = absurd (grind (arith, s))
 
 -- a board has the same places before and after a move
@@ -167,15 +176,18 @@ both_reserves : (stacked : Bool) (xs : List (Option Card)) (i j : ℕ) → IsTru
 both_reserves true xs i j h apart = cc
 both_reserves false xs i j h apart = set_comm xs i j None None (apart_numbers i j apart)
 
-pub without_both : (rules : RuleParts) (b : Board) (p q : Place) (k n : ℕ) → IsTrue (is_source p) → IsTrue (is_source q) → Apart rules p q
+pub without_both : (rules : RuleParts) (b : Board) (p q : Place) (k n : ℕ) → IsTrue (is_source p)
+    → IsTrue (is_source q) → Apart rules p q
     → without rules (without rules b p k) q n ≡ without rules (without rules b q n) p k
 without_both rules b (Tableau i) (Tableau j) k n s t apart =
     sym (ap (λ (piles : List Pile). record b { piles = piles })
     (two_writes b.piles i j (pile_without k) (pile_without n) empty_pile (apart_numbers i j apart.places)))
 without_both rules b (Cell i) (Cell j) k n s t apart =
-    ap (λ (cells : List (Option Card)). record b { cells = cells }) (set_comm b.cells i j None None (apart_numbers i j apart.places))
+    ap (λ (cells : List (Option Card)). record b { cells = cells })
+    (set_comm b.cells i j None None (apart_numbers i j apart.places))
 without_both rules b (Reserve i) (Reserve j) k n s t apart =
-    ap (λ (entries : List (Option Card)). record b { reserve = entries }) (both_reserves rules.stacked b.reserve i j apart.reserves apart.places)
+    ap (λ (entries : List (Option Card)). record b { reserve = entries })
+    (both_reserves rules.stacked b.reserve i j apart.reserves apart.places)
 without_both rules b Waste Waste k n s t apart = absurd (grind (arith, nat_tests, apart.places))
 without_both rules b (Foundation f) q k n s t apart = absurd (grind (arith, s))
 without_both rules b Hole q k n s t apart = absurd (grind (arith, s))

@@ -49,7 +49,8 @@ head-before {A = A} R x y ys pairs h =
 tail-pairs : {A : Type 0} (R : A → A → Type 0) (y : A) (ys : List A) → AllPairs R (y ∷ ys) → AllPairs R ys
 tail-pairs R y ys pairs i j d l m = pairs (suc i) (suc j) d (omega (arith, l)) (omega (arith, m))
 
-find-first : {A : Type 0} (R : A → A → Type 0) (p : A → Bool) (xs : List A) (x : A) → AllPairs R xs → Contains xs x → p x ≡ true
+find-first : {A : Type 0} (R : A → A → Type 0) (p : A → Bool) (xs : List A) (x : A) → AllPairs R xs
+    → Contains xs x → p x ≡ true
     → ((y : A) → p y ≡ true → R y x → ⊥) → find p xs ≡ Some x
 find-first R p [] x pairs here h none = absurd (omega (arith, here.1))
 find-first R p (y ∷ ys) x pairs here h none =
@@ -60,7 +61,8 @@ find-first R p (y ∷ ys) x pairs here h none =
       ]
       | inr fails ↦ elim (Contains-cases x y ys here) [
         | inl same ↦ (let e = ap p same in cc)
-        | inr rest ↦ cond-false (p y) (Some y) (find p ys) fails ∙ find-first R p ys x (tail-pairs R y ys pairs) rest h none
+        | inr rest ↦ cond-false (p y) (Some y) (find p ys) fails
+            ∙ find-first R p ys x (tail-pairs R y ys pairs) rest h none
       ]
     ]
 
@@ -70,5 +72,6 @@ first_safe-found rules board move safe none =
     find-first Before (is_safe rules board) (legal_moves rules board) move (legal_moves-in_order rules board)
     ((legal_moves-exact rules board move).1 (legal-from_safe rules board move safe)) safe none
 
-pub first_safe-none : (rules : RuleParts) (board : Board) → ((move : Move) → IsTrue (is_safe rules board move) → ⊥) → first_safe rules board ≡ None
+pub first_safe-none : (rules : RuleParts) (board : Board) → ((move : Move) → IsTrue (is_safe rules board move) → ⊥)
+    → first_safe rules board ≡ None
 first_safe-none rules board none = find-nothing (is_safe rules board) (legal_moves rules board) none

@@ -1,5 +1,6 @@
 -- With one deck a card is home exactly where its foundation is higher than its place.
-use Rattle.std.proofs.Common.{inl, inr, ◌≡◌, ℕ, ◌+◌, ◌-◌, ◌*◌, ◌%◌, ◌<◌, ◌≤◌, zero, suc, Bool, true, false, ◌&&◌, length, refl, ap, sym, ◌∙◌, subst, arith, eq-eqb}
+use Rattle.std.proofs.Common.{inl, inr, ◌≡◌, ℕ, ◌+◌, ◌-◌, ◌*◌, ◌%◌, ◌<◌, ◌≤◌, zero, suc, Bool, true, false, ◌&&◌}
+use Rattle.std.proofs.Common.{length, refl, ap, sym, ◌∙◌, subst, arith, eq-eqb}
 use Rattle.std.specs.Prelude.{IsTrue, ◌==◌, nat_lt, nat_le}
 use Rattle.std.specs.List.{list_any, range_with_len}
 use Rattle.std.proofs.Math.Nat.{mod-eq_of_lt, mod-eq-sub-mod}
@@ -40,7 +41,8 @@ place_of_rank m b r j lb hb lr hr lj h =
           let e = mod_twice (r + m - b) m (omega arith) (omega arith) in
           omega (arith, e, rank))
       | inr above ↦ (
-          let rank : (b - 1) + j - m + 1 ≡ r = (let e = mod_twice ((b - 1) + j) m above (omega arith) in omega (arith, e, h)) in
+          let rank : (b - 1) + j - m + 1 ≡ r =
+          (let e = mod_twice ((b - 1) + j) m above (omega arith) in omega (arith, e, h)) in
           let e = mod_once (r + m - b) m (omega arith) in
           omega (arith, e, rank, above))
     ]
@@ -51,10 +53,12 @@ rank_of_place m b r lb hb lr hr =
       | inl below ↦ (
           let e : (r + m - b) % m ≡ r + m - b = mod_once (r + m - b) m (omega arith) in
           let sum : (b - 1) + (r + m - b) % m ≡ r - 1 + m = omega (arith, e) in
-          let f : (r - 1 + m) % m ≡ r - 1 = (let g = mod_twice (r - 1 + m) m (omega arith) (omega arith) in omega (arith, g)) in
+          let f : (r - 1 + m) % m ≡ r - 1 =
+          (let g = mod_twice (r - 1 + m) m (omega arith) (omega arith) in omega (arith, g)) in
           ap (λ (x : ℕ). x % m + 1) sum ∙ omega (arith, f))
       | inr above ↦ (
-          let e : (r + m - b) % m ≡ r - b = (let g = mod_twice (r + m - b) m (omega arith) (omega arith) in omega (arith, g)) in
+          let e : (r + m - b) % m ≡ r - b =
+          (let g = mod_twice (r + m - b) m (omega arith) (omega arith) in omega (arith, g)) in
           let sum : (b - 1) + (r + m - b) % m ≡ r - 1 = omega (arith, e, above) in
           let f : (r - 1) % m ≡ r - 1 = mod_once (r - 1) m (omega arith) in
           ap (λ (x : ℕ). x % m + 1) sum ∙ omega (arith, f))
@@ -77,8 +81,12 @@ below_of false m b h k = cc
 pub base_within : (rules : RuleParts) → IsPlayable rules → IsTrue (is_foundation_goal rules.goal) → BaseWithin rules
 base_within rules playable goal =
     let above : has_base_above rules ≡ false
-    = was_false _ 8 _ (past _ 7 _ (past _ 6 _ (past _ 5 _ (past _ 4 _ (past _ 3 _ (past _ 2 _ playable.no_conflict)))))) in
-    record { low = base_low rules.goal (numbers_of rules playable).base; high = below_of (is_foundation_goal rules.goal) rules.max_rank (base_of rules.goal) goal above }
+    = was_false _ 8 _
+    (past _ 7 _ (past _ 6 _ (past _ 5 _ (past _ 4 _ (past _ 3 _ (past _ 2 _ playable.no_conflict)))))) in
+    record {
+      low = base_low rules.goal (numbers_of rules playable).base;
+      high = below_of (is_foundation_goal rules.goal) rules.max_rank (base_of rules.goal) goal above;
+    }
 
 -- suits and foundations
 pub place-of_suit : (n : ℕ) → n < 4 → place_of (suit_at n) ≡ n
@@ -105,14 +113,18 @@ same_tests false true h k = k refl
 same_tests false false h k = refl
 
 pub four_heights : (rules : RuleParts) (board : Board) → Allowed rules → Belongs rules board → length board.heights ≡ 4
-four_heights rules board allows belongs = belongs.foundations ∙ four (is_foundation_goal rules.goal) rules.decks allows.goal allows.deck
+four_heights rules board allows belongs = belongs.foundations
+    ∙ four (is_foundation_goal rules.goal) rules.decks allows.goal allows.deck
 
-low_height : (rules : RuleParts) (board : Board) (f : ℕ) → Allowed rules → Belongs rules board → f < 4 → height_at board f ≤ rules.max_rank
+low_height : (rules : RuleParts) (board : Board) (f : ℕ) → Allowed rules → Belongs rules board → f < 4
+    → height_at board f ≤ rules.max_rank
 low_height rules board f allows belongs small =
     let count = four_heights rules board allows belongs in
-    leb-true _ _ (all_at (λ (height : ℕ). nat_le height rules.max_rank) board.heights f 0 belongs.heights (omega (arith, count)))
+    leb-true _ _
+    (all_at (λ (height : ℕ). nat_le height rules.max_rank) board.heights f 0 belongs.heights (omega (arith, count)))
 
-pub home-by_place : (rules : RuleParts) (board : Board) (card : Card) → IsPlayable rules → Allowed rules → Belongs rules board
+pub home-by_place : (rules : RuleParts) (board : Board) (card : Card) → IsPlayable rules → Allowed rules
+    → Belongs rules board
     → 1 ≤ card.rank → card.rank ≤ rules.max_rank
     → is_home rules board card ≡ nat_lt (home_place rules card.rank) (height_at board (place_of card.suit))
 home-by_place rules board card playable allows belongs low high =
@@ -136,11 +148,14 @@ home-by_place rules board card playable allows belongs low high =
     let rank_low : 1 ≤ foundation_rank rules (0 + found.k) = omega arith in
     let rank_high : foundation_rank rules (0 + found.k) ≤ 13 = omega (arith, top, some) in
     let place : place_of card.suit ≡ at.f = omega (arith, equal, suit, low, high, top, rank_low, rank_high) in
-    let rank : foundation_rank rules (0 + found.k) ≡ card.rank = omega (arith, equal, suit, low, high, top, rank_low, rank_high) in
+    let rank : foundation_rank rules (0 + found.k) ≡ card.rank = omega
+    (arith, equal, suit, low, high, top, rank_low, rank_high) in
     let plain : 0 + found.k ≡ found.k = omega arith in
-    let rank_plain : (base_of rules.goal - 1 + found.k) % rules.max_rank + 1 ≡ card.rank = sym (ap (foundation_rank rules) plain) ∙ rank in
+    let rank_plain : (base_of rules.goal - 1 + found.k) % rules.max_rank + 1 ≡ card.rank =
+    sym (ap (foundation_rank rules) plain) ∙ rank in
     let at_place : home_place rules card.rank ≡ found.k
-    = place_of_rank rules.max_rank (base_of rules.goal) card.rank found.k lb hb low high (omega (arith, within, limit)) rank_plain in
+    = place_of_rank rules.max_rank (base_of rules.goal) card.rank found.k lb hb low high
+    (omega (arith, within, limit)) rank_plain in
     let same = ap (height_at board) place in
     lt-ltb _ _ (omega (arith, at_place, within, same)))
     (λ h.
@@ -148,7 +163,8 @@ home-by_place rules board card playable allows belongs low high =
     let j : ℕ = home_place rules card.rank in
     let below : j < height_at board f = ltb-true _ _ h in
     let small : f < 4 = few_places card.suit in
-    let rank : foundation_rank rules j ≡ card.rank = rank_of_place rules.max_rank (base_of rules.goal) card.rank lb hb low high in
+    let rank : foundation_rank rules j ≡ card.rank = rank_of_place rules.max_rank
+    (base_of rules.goal) card.rank lb hb low high in
     let suit = suit-on_foundation f small in
     let equal : number_of (foundation_card rules f j) ≡ number_of card
     = ap (λ (p : ℕ). 13 * p + (foundation_rank rules j - 1)) suit ∙ ap (λ (r : ℕ). 13 * f + (r - 1)) rank in
@@ -158,10 +174,12 @@ home-by_place rules board card playable allows belongs low high =
     = any_of_map number (foundation_card rules f) (range_with_len 0 (height_at board f))
     ∙ any-from_found (λ j. number (foundation_card rules f j)) 0 (height_at board f) j below
     (subst (λ (j : ℕ). number (foundation_card rules f j) ≡ true) plain_j (eq-eqb _ _ equal)) in
-    any-from_found (λ f. list_any number (foundation_cards rules f (height_at board f))) 0 (length board.heights) f (omega (arith, count, small))
+    any-from_found (λ f. list_any number (foundation_cards rules f (height_at board f))) 0 (length board.heights) f
+    (omega (arith, count, small))
     (subst (λ (f : ℕ). list_any number (foundation_cards rules f (height_at board f)) ≡ true) plain_f here))
 
-pub home-by_height : (rules : RuleParts) (board : Board) (card : Card) → IsPlayable rules → IsTrue (rules_allow rules) → Belongs rules board
+pub home-by_height : (rules : RuleParts) (board : Board) (card : Card) → IsPlayable rules → IsTrue (rules_allow rules)
+    → Belongs rules board
     → 1 ≤ card.rank → card.rank ≤ rules.max_rank
     → is_home rules board card ≡ nat_lt (home_place rules card.rank) (height_at board (place_of card.suit))
 home-by_height rules board card playable allow belongs low high =

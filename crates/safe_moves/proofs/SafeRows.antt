@@ -14,7 +14,8 @@ use Rattle.safe_moves.specs.Safe.{first_safe, is_safe}
 
 -- four ranks, two piles, one cell, and cards that build on the other colour
 abbrev four_ranks : ℕ → RuleParts
-four_ranks decks = record (plain 4 2) { decks = decks; build = RedBlack; group_build = RedBlack; spaces = NoFill; cells = 1 }
+four_ranks decks =
+    record (plain 4 2) { decks = decks; build = RedBlack; group_build = RedBlack; spaces = NoFill; cells = 1 }
 
 -- a board with a free cell
 abbrev with_free_cell : List Pile → List ℕ → Board
@@ -22,7 +23,8 @@ with_free_cell piles heights = record (board_of piles heights) { cells = None �
 
 -- an ace is safe, and its move home is the one step
 abbrev ace_free : Board
-ace_free = with_free_cell (up (card Clubs 2 ∷ card Clubs 3 ∷ card Clubs 4 ∷ []) ∷ up (card Clubs 1 ∷ []) ∷ []) (0 ∷ 4 ∷ 4 ∷ 4 ∷ [])
+ace_free = with_free_cell (up (card Clubs 2 ∷ card Clubs 3 ∷ card Clubs 4 ∷ []) ∷ up (card Clubs 1 ∷ []) ∷ [])
+    (0 ∷ 4 ∷ 4 ∷ 4 ∷ [])
 
 pub ace_free-first : first_safe (four_ranks 1) ace_free ≡ Some (Carry (Tableau 1) (Foundation 0) 1)
 ace_free-first = refl

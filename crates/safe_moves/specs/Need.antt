@@ -23,4 +23,5 @@ is_no_bar rules board card place suit =
 -- the same of all four suits
 abbrev pub are_no_bar : RuleParts → Board → Card → Option ℕ → Bool
 are_no_bar rules board card None = true
-are_no_bar rules board card (Some rank) = list_all (is_no_bar rules board card (home_place rules rank)) (range_with_len 0 4)
+are_no_bar rules board card (Some rank) = list_all (is_no_bar rules board card (home_place rules rank))
+    (range_with_len 0 4)

@@ -18,7 +18,8 @@ use Rattle.game_rules.specs.Order.{legal_moves}
 -- the cards of one deck
 abbrev pub deck_of : ℕ → List Card
 deck_of max_rank =
-    flat_map (λ suit. map (λ rank. record { suit = suit_at suit; rank = rank }) (range_with_len 1 max_rank)) (range_with_len 0 4)
+    flat_map (λ suit. map (λ rank. record { suit = suit_at suit; rank = rank }) (range_with_len 1 max_rank))
+    (range_with_len 0 4)
 
 -- whether the card lies on a foundation
 abbrev pub is_home : RuleParts → Board → Card → Bool

@@ -1,5 +1,6 @@
 -- The cards of a board beside those on foundations are no more than those of its decks.
-use Rattle.std.proofs.Common.{◌≡◌, ◌+◌, ◌*◌, ◌≤◌, List, [], ◌∷◌, ◌++◌, length, refl, arith, length-append, mul-le-mul_right}
+use Rattle.std.proofs.Common.{◌≡◌, ◌+◌, ◌*◌, ◌≤◌, List, [], ◌∷◌, ◌++◌, length, refl, arith}
+use Rattle.std.proofs.Common.{length-append, mul-le-mul_right}
 use Rattle.std.specs.Prelude.{Option, Some, None, is_some}
 use Rattle.std.specs.List.{sum_by, count_by}
 use Rattle.std.proofs.lemmas.List.Sums.{sum_by-cons}
@@ -22,7 +23,8 @@ length-piles (pile ∷ piles) =
     let step = sum_by-cons (λ (p : Pile). length p.cards) pile piles in
     omega (arith, joined, rest, step)
 
-length-entries : (entries : List (Option Card)) → length (cards_in entries) ≡ count_by (λ (e : Option Card). is_some e) entries
+length-entries : (entries : List (Option Card))
+    → length (cards_in entries) ≡ count_by (λ (e : Option Card). is_some e) entries
 length-entries [] = refl
 length-entries (None ∷ entries) =
     let rest = length-entries entries in
@@ -42,12 +44,16 @@ cards-counted board =
     let last = length-append board.hole (cards_in board.slots) in
     let wastes = length-append board.waste (board.hole ++ cards_in board.slots) in
     let stocks = length-append board.stock (board.waste ++ (board.hole ++ cards_in board.slots)) in
-    let reserves = length-append (cards_in board.reserve) (board.stock ++ (board.waste ++ (board.hole ++ cards_in board.slots))) in
-    let filled = length-append (cards_in board.cells) (cards_in board.reserve ++ (board.stock ++ (board.waste ++ (board.hole ++ cards_in board.slots)))) in
-    let all = length-append (cards_of_piles board.piles) (cards_in board.cells ++ (cards_in board.reserve ++ (board.stock ++ (board.waste ++ (board.hole ++ cards_in board.slots))))) in
+    let reserves = length-append (cards_in board.reserve)
+    (board.stock ++ (board.waste ++ (board.hole ++ cards_in board.slots))) in
+    let filled = length-append (cards_in board.cells)
+    (cards_in board.reserve ++ (board.stock ++ (board.waste ++ (board.hole ++ cards_in board.slots)))) in
+    let all = length-append (cards_of_piles board.piles) (cards_in board.cells
+    ++ (cards_in board.reserve ++ (board.stock ++ (board.waste ++ (board.hole ++ cards_in board.slots))))) in
     omega (arith, piles, cells, reserve, slots, last, wastes, stocks, reserves, filled, all)
 
-pub cards-few_for_decks : (rules : RuleParts) (board : Board) → HasLimits rules → Belongs rules board → length (cards_of_board board) ≤ 52 * rules.decks
+pub cards-few_for_decks : (rules : RuleParts) (board : Board) → HasLimits rules → Belongs rules board
+    → length (cards_of_board board) ≤ 52 * rules.decks
 cards-few_for_decks rules board limits belongs =
     let few = few_cards-by_suits rules board belongs in
     let counted = cards-counted board in

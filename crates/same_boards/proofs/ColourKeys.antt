@@ -1,5 +1,6 @@
 -- Keys that know colours and ranks alone tell apart exactly the boards that differ in more than the suits of a colour.
-use Rattle.std.proofs.Common.{◌≡◌, ℕ, ◌+◌, ◌-◌, ◌*◌, ◌&&◌, Bool, true, false, ◌||◌, List, [], ◌∷◌, ◌++◌, map, length, get_or, refl, ap, ap₂, sym, ◌∙◌, subst, arith, ◌≤◌, length-append}
+use Rattle.std.proofs.Common.{◌≡◌, ℕ, ◌+◌, ◌-◌, ◌*◌, ◌&&◌, Bool, true, false, ◌||◌, List, [], ◌∷◌, ◌++◌, map, length}
+use Rattle.std.proofs.Common.{get_or, refl, ap, ap₂, sym, ◌∙◌, subst, arith, ◌≤◌, length-append}
 use Rattle.std.specs.Prelude.{IsTrue, ◌↔◌, Option, Some, None, is_some, nat_eq, nat_le, if◌then◌else◌}
 use Rattle.std.specs.List.{All, list_all}
 use Rattle.std.specs.List.Sorted.{IsPermutation}
@@ -22,7 +23,8 @@ use Rattle.game_rules.specs.Play.{is_empty}
 use Rattle.game_rules.specs.Belonging.{Belongs, lies_well}
 use Rattle.same_boards.specs.Same.{heights_of_suit}
 use Rattle.same_boards.specs.Keys.{sorted_bytes, cards_in, card_byte}
-use Rattle.same_boards.specs.Colours.{SameColours, coloured, coloured_entry, coloured_pile, coloured_board, black_heights, red_heights, colour_height_bytes, colour_key_bytes}
+use Rattle.same_boards.specs.Colours.{SameColours, coloured, coloured_entry, coloured_pile, coloured_board}
+use Rattle.same_boards.specs.Colours.{black_heights, red_heights, colour_height_bytes, colour_key_bytes}
 use Rattle.game_rules.proofs.Limits.{limits_of}
 use Rattle.same_boards.proofs.Sorting.{numbers_apart, sorted-same, permutation-from_sorted}
 use Rattle.same_boards.proofs.SameKeys.{key-from_cards}
@@ -31,7 +33,8 @@ use Rattle.game_rules.proofs.Ranks.{ranks-belong}
 use Rattle.same_boards.proofs.BoardCards.{cards_of_piles}
 use Rattle.same_boards.proofs.KeyParts.{IsGood, IsGoodEntry, IsGoodPile, same_split}
 use Rattle.same_boards.proofs.KeysSame.{HasShape, shape_of, KeyParts, cards-from_key, if_size, if_same}
-use Rattle.same_boards.proofs.KeyBytes.{IsByte, AreBytes, HasSmallNumbers, small_numbers, key_with-are_bytes, suit-are, sorted_bytes-are, if-are}
+use Rattle.same_boards.proofs.KeyBytes.{IsByte, AreBytes, HasSmallNumbers, small_numbers, key_with-are_bytes, suit-are}
+use Rattle.same_boards.proofs.KeyBytes.{sorted_bytes-are, if-are}
 use Rattle.same_boards.proofs.KeySize.{sorted-size, IsSmall, small_board, key_with-short}
 
 -- ---- a board's colours have the shape of the board
@@ -44,11 +47,13 @@ entry-good None good = tt
 entry-good (Some card) good = good
 
 entries-good : (entries : List (Option Card)) → All IsGoodEntry entries → All IsGoodEntry (map coloured_entry entries)
-entries-good entries all = All-map IsGoodEntry coloured_entry entries (λ k d h. entry-good (get_or entries k d) (all k d h))
+entries-good entries all = All-map IsGoodEntry coloured_entry entries
+    (λ k d h. entry-good (get_or entries k d) (all k d h))
 
 good-coloured : (board : Board) → HasRanks board → HasRanks (coloured_board board)
 good-coloured board good = record {
-  piles = All-map IsGoodPile coloured_pile board.piles (λ k d h. coloured-good (get_or board.piles k d).cards (good.piles k d h));
+  piles = All-map IsGoodPile coloured_pile board.piles
+      (λ k d h. coloured-good (get_or board.piles k d).cards (good.piles k d h));
   cells = entries-good board.cells good.cells;
   reserve = entries-good board.reserve good.reserve;
   stock = coloured-good board.stock good.stock;
@@ -58,14 +63,16 @@ good-coloured board good = record {
 }
 
 some-coloured : (entries : List (Option Card))
-    → list_all (λ (e : Option Card). is_some e) (map coloured_entry entries) ≡ list_all (λ (e : Option Card). is_some e) entries
+    → list_all (λ (e : Option Card). is_some e) (map coloured_entry entries) ≡ list_all
+    (λ (e : Option Card). is_some e) entries
 some-coloured [] = refl
 some-coloured (None ∷ entries) = refl
 some-coloured (Some card ∷ entries) = some-coloured entries
 
 filled-coloured : (t : Bool) (n : ℕ) (entries : List (Option Card))
     → IsTrue (if t then list_all (λ (e : Option Card). is_some e) entries else nat_eq (length entries) n)
-    → IsTrue (if t then list_all (λ (e : Option Card). is_some e) (map coloured_entry entries) else nat_eq (length (map coloured_entry entries)) n)
+    → IsTrue (if t then list_all (λ (e : Option Card). is_some e) (map coloured_entry entries)
+    else nat_eq (length (map coloured_entry entries)) n)
 filled-coloured true n entries h = some-coloured entries ∙ h
 filled-coloured false n entries h = ap (λ (m : ℕ). nat_eq m n) (length-map entries coloured_entry) ∙ h
 
@@ -84,20 +91,27 @@ shape-coloured rules board shape = record {
 
 -- ---- heights by colour
 
-two_suits-size : (rules : RuleParts) (board : Board) (s t : ℕ) → length (heights_of_suit rules board s ++ heights_of_suit rules board t) ≡ 2 * rules.decks
+two_suits-size : (rules : RuleParts) (board : Board) (s t : ℕ)
+    → length (heights_of_suit rules board s ++ heights_of_suit rules board t) ≡ 2 * rules.decks
 two_suits-size rules board s t =
     let whole = length-append (heights_of_suit rules board s) (heights_of_suit rules board t) in
-    let one : length (heights_of_suit rules board s) ≡ rules.decks = length-map-range_with_len (λ (deck : ℕ). height_at board (4 * deck + s)) 0 rules.decks in
-    let other : length (heights_of_suit rules board t) ≡ rules.decks = length-map-range_with_len (λ (deck : ℕ). height_at board (4 * deck + t)) 0 rules.decks in
+    let one : length (heights_of_suit rules board s) ≡ rules.decks = length-map-range_with_len
+    (λ (deck : ℕ). height_at board (4 * deck + s)) 0 rules.decks in
+    let other : length (heights_of_suit rules board t) ≡ rules.decks = length-map-range_with_len
+    (λ (deck : ℕ). height_at board (4 * deck + t)) 0 rules.decks in
     omega (arith, whole, one, other)
 
-black-size : (rules : RuleParts) (a b : Board) → length (sorted_bytes (black_heights rules a)) ≡ length (sorted_bytes (black_heights rules b))
+black-size : (rules : RuleParts) (a b : Board)
+    → length (sorted_bytes (black_heights rules a)) ≡ length (sorted_bytes (black_heights rules b))
 black-size rules a b =
-    sorted-size nat_cmp (black_heights rules a) ∙ two_suits-size rules a 0 3 ∙ sym (sorted-size nat_cmp (black_heights rules b) ∙ two_suits-size rules b 0 3)
+    sorted-size nat_cmp (black_heights rules a) ∙ two_suits-size rules a 0 3
+    ∙ sym (sorted-size nat_cmp (black_heights rules b) ∙ two_suits-size rules b 0 3)
 
-red-size : (rules : RuleParts) (a b : Board) → length (sorted_bytes (red_heights rules a)) ≡ length (sorted_bytes (red_heights rules b))
+red-size : (rules : RuleParts) (a b : Board)
+    → length (sorted_bytes (red_heights rules a)) ≡ length (sorted_bytes (red_heights rules b))
 red-size rules a b =
-    sorted-size nat_cmp (red_heights rules a) ∙ two_suits-size rules a 1 2 ∙ sym (sorted-size nat_cmp (red_heights rules b) ∙ two_suits-size rules b 1 2)
+    sorted-size nat_cmp (red_heights rules a) ∙ two_suits-size rules a 1 2
+    ∙ sym (sorted-size nat_cmp (red_heights rules b) ∙ two_suits-size rules b 1 2)
 
 both_heights : RuleParts → Board → List ℕ
 both_heights rules board = sorted_bytes (black_heights rules board) ++ sorted_bytes (red_heights rules board)
@@ -115,11 +129,13 @@ record ColourHeights (rules : RuleParts) (a b : Board) : Type 0 where
   black : IsPermutation (black_heights rules a) (black_heights rules b)
   red : IsPermutation (red_heights rules a) (red_heights rules b)
 
-heights-from_colours : (rules : RuleParts) (a b : Board) (t : Bool) → length a.heights ≡ (if t then 4 * rules.decks else 0) → length b.heights ≡ (if t then 4 * rules.decks else 0)
+heights-from_colours : (rules : RuleParts) (a b : Board) (t : Bool)
+    → length a.heights ≡ (if t then 4 * rules.decks else 0) → length b.heights ≡ (if t then 4 * rules.decks else 0)
     → (t ≡ true → both_heights rules a ≡ both_heights rules b) → ColourHeights rules a b
 unfolding both_heights
 heights-from_colours rules a b true size_a size_b same =
-    let parts = same_split (sorted_bytes (black_heights rules a)) (sorted_bytes (black_heights rules b)) (sorted_bytes (red_heights rules a)) (sorted_bytes (red_heights rules b)) (black-size rules a b) (same refl) in
+    let parts = same_split (sorted_bytes (black_heights rules a)) (sorted_bytes (black_heights rules b))
+    (sorted_bytes (red_heights rules a)) (sorted_bytes (red_heights rules b)) (black-size rules a b) (same refl) in
     record {
       black = permutation-from_sorted nat_cmp (black_heights rules a) (black_heights rules b) parts.0;
       red = permutation-from_sorted nat_cmp (red_heights rules a) (red_heights rules b) parts.1;
@@ -127,27 +143,35 @@ heights-from_colours rules a b true size_a size_b same =
 heights-from_colours rules a b false size_a size_b same =
     let none : a.heights ≡ b.heights = nil_from_length a.heights size_a ∙ sym (nil_from_length b.heights size_b) in
     record {
-      black = subst (λ (heights : List ℕ). IsPermutation (black_heights rules a) (black_heights rules (record b { heights = heights }))) none (IsPermutation-refl (black_heights rules a));
-      red = subst (λ (heights : List ℕ). IsPermutation (red_heights rules a) (red_heights rules (record b { heights = heights }))) none (IsPermutation-refl (red_heights rules a));
+      black = subst (λ (heights : List ℕ). IsPermutation (black_heights rules a)
+          (black_heights rules (record b { heights = heights }))) none (IsPermutation-refl (black_heights rules a));
+      red = subst (λ (heights : List ℕ). IsPermutation (red_heights rules a)
+          (red_heights rules (record b { heights = heights }))) none (IsPermutation-refl (red_heights rules a));
     }
 
 -- ---- keys
 
-pub colour_key-from_same : (rules : RuleParts) (a b : Board) → SameColours rules a b → colour_key_bytes rules a ≡ colour_key_bytes rules b
+pub colour_key-from_same : (rules : RuleParts) (a b : Board) → SameColours rules a b
+    → colour_key_bytes rules a ≡ colour_key_bytes rules b
 colour_key-from_same rules a b same =
-    let black : sorted_bytes (black_heights rules a) ≡ sorted_bytes (black_heights rules b) = sorted-same nat_cmp numbers_apart (black_heights rules a) (black_heights rules b) same.black in
-    let red : sorted_bytes (red_heights rules a) ≡ sorted_bytes (red_heights rules b) = sorted-same nat_cmp numbers_apart (red_heights rules a) (red_heights rules b) same.red in
+    let black : sorted_bytes (black_heights rules a) ≡ sorted_bytes (black_heights rules b) =
+    sorted-same nat_cmp numbers_apart (black_heights rules a) (black_heights rules b) same.black in
+    let red : sorted_bytes (red_heights rules a) ≡ sorted_bytes (red_heights rules b) =
+    sorted-same nat_cmp numbers_apart (red_heights rules a) (red_heights rules b) same.red in
     let heights : colour_height_bytes rules a ≡ colour_height_bytes rules b =
     ap (λ (x : List ℕ). if is_foundation_goal rules.goal then x else []) (ap₂ (λ (x y : List ℕ). x ++ y) black red) in
-    key-from_cards rules (coloured_board a) (coloured_board b) (colour_height_bytes rules a) (colour_height_bytes rules b) same.cards heights
+    key-from_cards rules (coloured_board a) (coloured_board b) (colour_height_bytes rules a)
+    (colour_height_bytes rules b) same.cards heights
 
 pub same-from_colour_key : (rules : RuleParts) (a b : Board) → IsPlayable rules → Belongs rules a → Belongs rules b
     → colour_key_bytes rules a ≡ colour_key_bytes rules b → SameColours rules a b
 unfolding both_heights
 same-from_colour_key rules a b playable in_a in_b e =
     let limits : HasLimits rules = limits_of rules playable in
-    let parts : KeyParts rules (coloured_board a) (coloured_board b) (colour_height_bytes rules a) (colour_height_bytes rules b) =
-    cards-from_key rules (coloured_board a) (coloured_board b) (colour_height_bytes rules a) (colour_height_bytes rules b)
+    let parts : KeyParts rules (coloured_board a) (coloured_board b) (colour_height_bytes rules a)
+    (colour_height_bytes rules b) =
+    cards-from_key rules (coloured_board a) (coloured_board b) (colour_height_bytes rules a)
+    (colour_height_bytes rules b)
     (good-coloured a (ranks-belong rules a limits in_a)) (good-coloured b (ranks-belong rules b limits in_b))
     (shape-coloured rules a (shape_of rules a in_a)) (shape-coloured rules b (shape_of rules b in_b))
     (if_size (is_foundation_goal rules.goal) (both_heights rules a) (both_heights rules b) (both-size rules a b)) e in
@@ -159,11 +183,13 @@ same-from_colour_key rules a b playable in_a in_b e =
 -- two boards of the same rules have one key of colours exactly where they are the same up to suits of a colour
 pub colour_key-same : (rules : RuleParts) (a b : Board) → IsPlayable rules → Belongs rules a → Belongs rules b
     → (colour_key_bytes rules a ≡ colour_key_bytes rules b) ↔ SameColours rules a b
-colour_key-same rules a b playable in_a in_b = (same-from_colour_key rules a b playable in_a in_b, colour_key-from_same rules a b)
+colour_key-same rules a b playable in_a in_b =
+    (same-from_colour_key rules a b playable in_a in_b, colour_key-from_same rules a b)
 
 -- ---- a colour key is as short as a key
 
-cards_in-coloured : (entries : List (Option Card)) → length (cards_in (map coloured_entry entries)) ≡ length (cards_in entries)
+cards_in-coloured : (entries : List (Option Card))
+    → length (cards_in (map coloured_entry entries)) ≡ length (cards_in entries)
 cards_in-coloured [] = refl
 cards_in-coloured (None ∷ entries) = cards_in-coloured entries
 cards_in-coloured (Some card ∷ entries) = let rest = cards_in-coloured entries in omega (arith, rest)
@@ -181,31 +207,44 @@ small-coloured : (rules : RuleParts) (board : Board) → IsSmall rules board →
 small-coloured rules board small =
     let piles : length (map coloured_pile board.piles) ≡ length board.piles = length-map board.piles coloured_pile in
     let cells : length (map coloured_entry board.cells) ≡ length board.cells = length-map board.cells coloured_entry in
-    let reserve : length (map coloured_entry board.reserve) ≡ length board.reserve = length-map board.reserve coloured_entry in
+    let reserve : length (map coloured_entry board.reserve) ≡ length board.reserve =
+    length-map board.reserve coloured_entry in
     let stock : length (map coloured board.stock) ≡ length board.stock = length-map board.stock coloured in
     let waste : length (map coloured board.waste) ≡ length board.waste = length-map board.waste coloured in
     let slots : length (map coloured_entry board.slots) ≡ length board.slots = length-map board.slots coloured_entry in
     let reserve_most : length board.reserve ≤ rules.reserve = small.reserve in
     let stock_most : length board.stock + length board.waste ≤ rules.stock = small.stock in
-    let cards : length (cards_of_piles board.piles) + length (cards_in board.cells) + length (cards_in board.reserve) + length board.stock + length board.waste ≤ 52 * rules.decks = small.cards in
+    let cards : length (cards_of_piles board.piles) + length (cards_in board.cells) + length (cards_in board.reserve)
+    + length board.stock + length board.waste ≤ 52 * rules.decks = small.cards in
     record {
       piles = piles ∙ small.piles;
       cells = cells ∙ small.cells;
       reserve = omega (arith, reserve, reserve_most);
       stock = omega (arith, stock, waste, stock_most);
       slots = slots ∙ small.slots;
-      cards = omega (arith, piles-coloured board.piles, cards_in-coloured board.cells, cards_in-coloured board.reserve, stock, waste, cards);
+      cards = omega (
+        arith,
+        piles-coloured board.piles,
+        cards_in-coloured board.cells,
+        cards_in-coloured board.reserve,
+        stock,
+        waste,
+        cards,
+      );
     }
 
 both-count : (rules : RuleParts) (board : Board) → length (both_heights rules board) ≡ 4 * rules.decks
 unfolding both_heights
 both-count rules board =
     let whole = length-append (sorted_bytes (black_heights rules board)) (sorted_bytes (red_heights rules board)) in
-    let black : length (sorted_bytes (black_heights rules board)) ≡ 2 * rules.decks = sorted-size nat_cmp (black_heights rules board) ∙ two_suits-size rules board 0 3 in
-    let red : length (sorted_bytes (red_heights rules board)) ≡ 2 * rules.decks = sorted-size nat_cmp (red_heights rules board) ∙ two_suits-size rules board 1 2 in
+    let black : length (sorted_bytes (black_heights rules board)) ≡ 2 * rules.decks = sorted-size nat_cmp
+    (black_heights rules board) ∙ two_suits-size rules board 0 3 in
+    let red : length (sorted_bytes (red_heights rules board)) ≡ 2 * rules.decks = sorted-size nat_cmp
+    (red_heights rules board) ∙ two_suits-size rules board 1 2 in
     omega (arith, whole, black, red)
 
-pub colour_key-short : (rules : RuleParts) (board : Board) → IsPlayable rules → Belongs rules board → length (colour_key_bytes rules board) ≤ 157
+pub colour_key-short : (rules : RuleParts) (board : Board) → IsPlayable rules → Belongs rules board
+    → length (colour_key_bytes rules board) ≤ 157
 unfolding both_heights
 colour_key-short rules board playable belongs =
     key_with-short rules (coloured_board board) (both_heights rules board) playable
@@ -217,12 +256,14 @@ face-coloured : (face : Face) (pile : Pile) → lies_well face (coloured_pile pi
 face-coloured AllUp pile = refl
 face-coloured TopUp pile = ap (λ (n : ℕ). nat_le pile.face_down (n - 1)) (length-map pile.cards coloured)
 
-faces-coloured : (face : Face) (piles : List Pile) → list_all (lies_well face) (map coloured_pile piles) ≡ list_all (lies_well face) piles
+faces-coloured : (face : Face) (piles : List Pile) → list_all (lies_well face) (map coloured_pile piles) ≡ list_all
+    (lies_well face) piles
 faces-coloured face [] = refl
 faces-coloured face (pile ∷ piles) =
     ap₂ (λ (a b : Bool). a && b) (face-coloured face pile) (faces-coloured face piles)
 
-pub numbers-coloured : (rules : RuleParts) (board : Board) → HasSmallNumbers rules board → HasSmallNumbers rules (coloured_board board)
+pub numbers-coloured : (rules : RuleParts) (board : Board) → HasSmallNumbers rules board
+    → HasSmallNumbers rules (coloured_board board)
 numbers-coloured rules board small =
     let stock : length (map coloured board.stock) ≡ length board.stock = length-map board.stock coloured in
     let waste : length (map coloured board.waste) ≡ length board.waste = length-map board.waste coloured in
@@ -244,20 +285,24 @@ two_suits-are : (rules : RuleParts) (board : Board) (s t : ℕ) → HasLimits ru
     → AreBytes (sorted_bytes (heights_of_suit rules board s ++ heights_of_suit rules board t))
 two_suits-are rules board s t limits belongs =
     sorted_bytes-are (heights_of_suit rules board s ++ heights_of_suit rules board t)
-    (All-append IsByte (heights_of_suit rules board s) (heights_of_suit rules board t) (suit-are rules board s limits belongs) (suit-are rules board t limits belongs))
+    (All-append IsByte (heights_of_suit rules board s) (heights_of_suit rules board t)
+    (suit-are rules board s limits belongs) (suit-are rules board t limits belongs))
 
-colour_heights-are : (rules : RuleParts) (board : Board) → HasLimits rules → Belongs rules board → AreBytes (both_heights rules board)
+colour_heights-are : (rules : RuleParts) (board : Board) → HasLimits rules → Belongs rules board
+    → AreBytes (both_heights rules board)
 unfolding both_heights
 colour_heights-are rules board limits belongs =
     All-append IsByte (sorted_bytes (black_heights rules board)) (sorted_bytes (red_heights rules board))
     (two_suits-are rules board 0 3 limits belongs) (two_suits-are rules board 1 2 limits belongs)
 
-pub colour_key-are_bytes : (rules : RuleParts) (board : Board) → IsPlayable rules → Belongs rules board → AreBytes (colour_key_bytes rules board)
+pub colour_key-are_bytes : (rules : RuleParts) (board : Board) → IsPlayable rules → Belongs rules board
+    → AreBytes (colour_key_bytes rules board)
 unfolding both_heights
 colour_key-are_bytes rules board playable belongs =
     key_with-are_bytes rules (coloured_board board) (colour_height_bytes rules board)
     (numbers-coloured rules board (small_numbers rules board playable belongs))
-    (if-are (is_foundation_goal rules.goal) (both_heights rules board) (colour_heights-are rules board (limits_of rules playable) belongs))
+    (if-are (is_foundation_goal rules.goal) (both_heights rules board)
+    (colour_heights-are rules board (limits_of rules playable) belongs))
 
 -- a coloured card's byte is its rank, and 13 more where it is red
 pub coloured-byte : (suit : Suit) (rank : ℕ) → 1 ≤ rank

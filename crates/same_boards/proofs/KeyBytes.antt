@@ -1,5 +1,6 @@
 -- Each number of a key is a byte.
-use Rattle.std.proofs.Common.{◌≡◌, ℕ, ◌+◌, ◌-◌, ◌*◌, ◌<◌, ◌≤◌, Bool, true, false, ◌&&◌, List, [], ◌∷◌, ◌++◌, map, length, get_or, arith}
+use Rattle.std.proofs.Common.{◌≡◌, ℕ, ◌+◌, ◌-◌, ◌*◌, ◌<◌, ◌≤◌, Bool, true, false, ◌&&◌, List, [], ◌∷◌, ◌++◌, map}
+use Rattle.std.proofs.Common.{length, get_or, arith}
 use Rattle.std.specs.Prelude.{IsTrue, nat_le, Option, Some, None, if◌then◌else◌}
 use Rattle.std.specs.List.{All, AllPass, list_all, concat, range_with_len}
 use Rattle.std.specs.Ordering.{nat_cmp}
@@ -26,7 +27,9 @@ use Rattle.game_rules.specs.Board.{Board, Pile, top_of, height_at}
 use Rattle.game_rules.specs.Winning.{rows_of}
 use Rattle.game_rules.specs.Belonging.{Belongs, lies_well, most_redeals}
 use Rattle.same_boards.specs.Same.{keeps_pile_order, heights_of_suit}
-use Rattle.same_boards.specs.Keys.{sorted, sorted_bytes, sorted_lists, card_byte, card_bytes, entry_byte, counted, cards_in, height_bytes, hole_bytes, cell_bytes, reserve_bytes, pile_bytes, piles_bytes, row_bytes, rows_bytes, key_bytes, key_with}
+use Rattle.same_boards.specs.Keys.{sorted, sorted_bytes, sorted_lists, card_byte, card_bytes, entry_byte, counted}
+use Rattle.same_boards.specs.Keys.{cards_in, height_bytes, hole_bytes, cell_bytes, reserve_bytes, pile_bytes}
+use Rattle.same_boards.specs.Keys.{piles_bytes, row_bytes, rows_bytes, key_bytes, key_with}
 use Rattle.game_rules.proofs.Limits.{limits_of, numbers_within}
 use Rattle.same_boards.proofs.Renaming.{either}
 use Rattle.same_boards.proofs.Sorting.{sorted-permutation}
@@ -74,7 +77,8 @@ sorted-are P R xs all = All-permutation P xs (sorted R xs) (sorted-permutation R
 
 all-concat : (lists : List (List ℕ)) → All AreBytes lists → AreBytes (concat lists)
 all-concat [] all = All-nil IsByte
-all-concat (list ∷ lists) all = All-append IsByte list (concat lists) (All-head AreBytes list lists all) (all-concat lists (All-tail AreBytes list lists all))
+all-concat (list ∷ lists) all = All-append IsByte list (concat lists) (All-head AreBytes list lists all)
+    (all-concat lists (All-tail AreBytes list lists all))
 
 pub if-are : (t : Bool) (xs : List ℕ) → AreBytes xs → AreBytes (if t then xs else [])
 if-are true xs all = all
@@ -87,13 +91,15 @@ counted-are xs few all = All-cons IsByte (length xs) xs few all
 
 height-small : (rules : RuleParts) (board : Board) (f : ℕ) → Belongs rules board → height_at board f ≤ rules.max_rank
 height-small rules board f belongs =
-    let each : AllPass (λ (height : ℕ). nat_le height rules.max_rank) board.heights = AllPass-from_list_all (λ (height : ℕ). nat_le height rules.max_rank) board.heights belongs.heights in
+    let each : AllPass (λ (height : ℕ). nat_le height rules.max_rank) board.heights = AllPass-from_list_all
+    (λ (height : ℕ). nat_le height rules.max_rank) board.heights belongs.heights in
     either (cases_lt f (length board.heights))
     (λ h. leb-true (height_at board f) rules.max_rank (each f 0 h))
     (λ h. let none : height_at board f ≡ 0 = get_or_past board.heights f 0 h in omega arith)
 
 -- the heights of the foundations of a suit are bytes
-pub suit-are : (rules : RuleParts) (board : Board) (suit : ℕ) → HasLimits rules → Belongs rules board → AreBytes (heights_of_suit rules board suit)
+pub suit-are : (rules : RuleParts) (board : Board) (suit : ℕ) → HasLimits rules → Belongs rules board
+    → AreBytes (heights_of_suit rules board suit)
 suit-are rules board suit limits belongs =
     All-map IsByte (λ (deck : ℕ). height_at board (4 * deck + suit)) (range_with_len 0 rules.decks)
     (λ k d h. let small = height-small rules board (4 * get_or (range_with_len 0 rules.decks) k d + suit) belongs in
@@ -103,12 +109,15 @@ suit-are rules board suit limits belongs =
 pub sorted_bytes-are : (bytes : List ℕ) → AreBytes bytes → AreBytes (sorted_bytes bytes)
 sorted_bytes-are bytes all = sorted-are IsByte nat_cmp bytes all
 
-heights-are : (rules : RuleParts) (board : Board) → HasLimits rules → Belongs rules board → AreBytes (all_heights rules board)
+heights-are : (rules : RuleParts) (board : Board) → HasLimits rules → Belongs rules board
+    → AreBytes (all_heights rules board)
 heights-are rules board limits belongs =
-    let suit : (s : ℕ) → AreBytes (sorted_bytes (heights_of_suit rules board s)) = λ s. sorted_bytes-are (heights_of_suit rules board s) (suit-are rules board s limits belongs) in
+    let suit : (s : ℕ) → AreBytes (sorted_bytes (heights_of_suit rules board s)) = λ s.
+    sorted_bytes-are (heights_of_suit rules board s) (suit-are rules board s limits belongs) in
     All-append IsByte (sorted_bytes (heights_of_suit rules board 0)) _ (suit 0)
     (All-append IsByte (sorted_bytes (heights_of_suit rules board 1)) _ (suit 1)
-    (All-append IsByte (sorted_bytes (heights_of_suit rules board 2)) (sorted_bytes (heights_of_suit rules board 3)) (suit 2) (suit 3)))
+    (All-append IsByte (sorted_bytes (heights_of_suit rules board 2)) (sorted_bytes (heights_of_suit rules board 3))
+    (suit 2) (suit 3)))
 
 redeals-small : (redeals : Redeals) → IsTrue (are_redeals_within redeals) → most_redeals redeals ≤ 99
 redeals-small (Times n) h = leb-true n 99 h
@@ -125,15 +134,18 @@ redeals-within rules playable = redeals-small rules.redeals (last_part _ _ (numb
 
 face_down-small : (face : Face) (pile : Pile) → IsTrue (lies_well face pile) → pile.face_down ≤ length pile.cards
 face_down-small AllUp pile h = let none : pile.face_down ≡ 0 = eqb-true pile.face_down 0 h in omega arith
-face_down-small TopUp pile h = let few : pile.face_down ≤ length pile.cards - 1 = leb-true pile.face_down (length pile.cards - 1) h in omega arith
+face_down-small TopUp pile h = let few : pile.face_down ≤ length pile.cards - 1 = leb-true pile.face_down
+    (length pile.cards - 1) h in omega arith
 
-pub pile-small : (piles : List Pile) (k : ℕ) (d : Pile) → k < length piles → length (get_or piles k d).cards ≤ length (cards_of_piles piles)
+pub pile-small : (piles : List Pile) (k : ℕ) (d : Pile) → k < length piles
+    → length (get_or piles k d).cards ≤ length (cards_of_piles piles)
 pile-small piles k d h =
     let one = get_or-le-sum_by (λ (pile : Pile). length pile.cards) piles k d h in
     let whole = length-flat_map (λ (pile : Pile). pile.cards) piles in
     omega (arith, one, whole)
 
-pub piles-are : (face : Face) (piles : List Pile) → IsTrue (list_all (lies_well face) piles) → All IsGoodPile piles → length (cards_of_piles piles) < 256
+pub piles-are : (face : Face) (piles : List Pile) → IsTrue (list_all (lies_well face) piles) → All IsGoodPile piles
+    → length (cards_of_piles piles) < 256
     → All AreBytes (map pile_bytes piles)
 piles-are face piles lie good few =
     let each : AllPass (lies_well face) piles = AllPass-from_list_all (lies_well face) piles lie in
@@ -149,13 +161,15 @@ pieces-are_bytes : (t : Bool) (piles : List Pile) → All AreBytes (map pile_byt
 pieces-are_bytes true piles all = all
 pieces-are_bytes false piles all = sorted-are AreBytes (slice_cmp nat_cmp) (map pile_bytes piles) all
 
-reserve-are : (t : Bool) (cards : List Card) → All IsGood cards → AreBytes (if t then card_bytes cards else sorted_bytes (card_bytes cards))
+reserve-are : (t : Bool) (cards : List Card) → All IsGood cards
+    → AreBytes (if t then card_bytes cards else sorted_bytes (card_bytes cards))
 reserve-are true cards all = cards-are_bytes cards all
 reserve-are false cards all = sorted-are IsByte nat_cmp (card_bytes cards) (cards-are_bytes cards all)
 
 -- ---- the whole key
 
-join-are : (n : ℕ) → IsByte n → (s w h o c r p q : List ℕ) → AreBytes s → AreBytes w → AreBytes h → AreBytes o → AreBytes c → AreBytes r → AreBytes p → AreBytes q
+join-are : (n : ℕ) → IsByte n → (s w h o c r p q : List ℕ) → AreBytes s → AreBytes w → AreBytes h → AreBytes o
+    → AreBytes c → AreBytes r → AreBytes p → AreBytes q
     → AreBytes (n ∷ (s ++ (w ++ (h ++ (o ++ (c ++ (r ++ (p ++ q))))))))
 join-are n first s w h o c r p q a_s aw ah ao ac ar a_p aq =
     All-cons IsByte n (s ++ (w ++ (h ++ (o ++ (c ++ (r ++ (p ++ q))))))) first
@@ -172,10 +186,12 @@ pub record HasSmallNumbers (rules : RuleParts) (board : Board) : Type 0 where
   pub redeals_left : board.redeals_left < 256
   pub faces : IsTrue (list_all (lies_well rules.face) board.piles)
   pub ranks : HasRanks board
-  pub cards : length (cards_of_piles board.piles) + length (cards_in board.cells) + length (cards_in board.reserve) + length board.stock + length board.waste ≤ 104
+  pub cards : length (cards_of_piles board.piles) + length (cards_in board.cells) + length (cards_in board.reserve)
+      + length board.stock + length board.waste ≤ 104
   pub hole : length board.hole ≤ 104
 
-pub small_numbers : (rules : RuleParts) (board : Board) → IsPlayable rules → Belongs rules board → HasSmallNumbers rules board
+pub small_numbers : (rules : RuleParts) (board : Board) → IsPlayable rules → Belongs rules board
+    → HasSmallNumbers rules board
 small_numbers rules board playable belongs =
     let limits : HasLimits rules = limits_of rules playable in
     let decks : rules.decks ≤ 2 = limits.decks in
@@ -193,7 +209,8 @@ small_numbers rules board playable belongs =
     }
 
 -- each number of a key is a byte where those of the board and the heights are
-pub key_with-are_bytes : (rules : RuleParts) (board : Board) (heights : List ℕ) → HasSmallNumbers rules board → AreBytes heights
+pub key_with-are_bytes : (rules : RuleParts) (board : Board) (heights : List ℕ) → HasSmallNumbers rules board
+    → AreBytes heights
     → AreBytes (key_with heights rules board)
 key_with-are_bytes rules board heights small are_heights =
     let good : HasRanks board = small.ranks in
@@ -208,25 +225,34 @@ key_with-are_bytes rules board heights small are_heights =
     if-are (is_sequence_goal rules.goal) (concat (sorted_lists (map row_bytes (rows_of rules board))))
     (all-concat (sorted_lists (map row_bytes (rows_of rules board)))
     (sorted-are AreBytes (slice_cmp nat_cmp) (map row_bytes (rows_of rules board))
-    (All-map AreBytes row_bytes (rows_of rules board) (λ k d h. row-is_bytes (get_or (rows_of rules board) k d) (good_rows rules board good.slots k d h))))) in
+    (All-map AreBytes row_bytes (rows_of rules board)
+    (λ k d h. row-is_bytes (get_or (rows_of rules board) k d) (good_rows rules board good.slots k d h))))) in
     let piles : AreBytes (concat (piles_bytes rules board)) =
-    all-concat (piles_bytes rules board) (pieces-are_bytes (keeps_pile_order rules board) board.piles (piles-are rules.face board.piles small.faces good.piles few_piles)) in
+    all-concat (piles_bytes rules board) (pieces-are_bytes (keeps_pile_order rules board) board.piles
+    (piles-are rules.face board.piles small.faces good.piles few_piles)) in
     let reserve : AreBytes (counted (reserve_bytes rules board)) =
-    counted-are (reserve_bytes rules board) (omega (arith, cards, reserve_size)) (reserve-are rules.stacked (cards_in board.reserve) (good_cards_in board.reserve good.reserve)) in
+    counted-are (reserve_bytes rules board) (omega (arith, cards, reserve_size))
+    (reserve-are rules.stacked (cards_in board.reserve) (good_cards_in board.reserve good.reserve)) in
     let cells : AreBytes (counted (cell_bytes board)) =
-    counted-are (cell_bytes board) (omega (arith, cards, cell_size)) (reserve-are false (cards_in board.cells) (good_cards_in board.cells good.cells)) in
+    counted-are (cell_bytes board) (omega (arith, cards, cell_size))
+    (reserve-are false (cards_in board.cells) (good_cards_in board.cells good.cells)) in
     let hole : AreBytes (hole_bytes rules board) =
     if-are (is_hole_goal rules.goal) (length board.hole ∷ entry_byte (top_of board.hole) ∷ [])
     (All-cons IsByte (length board.hole) (entry_byte (top_of board.hole) ∷ []) (omega (arith, hole_few))
-    (All-cons IsByte (entry_byte (top_of board.hole)) [] (entry-is_byte (top_of board.hole) (top-good board.hole good.hole)) (All-nil IsByte))) in
+    (All-cons IsByte (entry_byte (top_of board.hole)) []
+    (entry-is_byte (top_of board.hole) (top-good board.hole good.hole)) (All-nil IsByte))) in
     let waste : AreBytes (counted (card_bytes board.waste)) =
     counted-are (card_bytes board.waste) (omega (arith, cards, waste_size)) (cards-are_bytes board.waste good.waste) in
     let stock : AreBytes (counted (card_bytes board.stock)) =
     counted-are (card_bytes board.stock) (omega (arith, cards, stock_size)) (cards-are_bytes board.stock good.stock) in
-    join-are board.redeals_left small.redeals_left (counted (card_bytes board.stock)) (counted (card_bytes board.waste)) heights (hole_bytes rules board)
-    (counted (cell_bytes board)) (counted (reserve_bytes rules board)) (concat (piles_bytes rules board)) (rows_bytes rules board) stock waste are_heights hole cells reserve piles rows
+    join-are board.redeals_left small.redeals_left (counted (card_bytes board.stock))
+    (counted (card_bytes board.waste)) heights (hole_bytes rules board)
+    (counted (cell_bytes board)) (counted (reserve_bytes rules board)) (concat (piles_bytes rules board))
+    (rows_bytes rules board) stock waste are_heights hole cells reserve piles rows
 
-pub key-are_bytes : (rules : RuleParts) (board : Board) → IsPlayable rules → Belongs rules board → AreBytes (key_bytes rules board)
+pub key-are_bytes : (rules : RuleParts) (board : Board) → IsPlayable rules → Belongs rules board
+    → AreBytes (key_bytes rules board)
 key-are_bytes rules board playable belongs =
     key_with-are_bytes rules board (height_bytes rules board) (small_numbers rules board playable belongs)
-    (if-are (is_foundation_goal rules.goal) (all_heights rules board) (heights-are rules board (limits_of rules playable) belongs))
+    (if-are (is_foundation_goal rules.goal) (all_heights rules board)
+    (heights-are rules board (limits_of rules playable) belongs))

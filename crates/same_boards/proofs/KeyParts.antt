@@ -1,5 +1,6 @@
 -- Bytes read back: cards from their bytes, and the parts of a key from the key.
-use Rattle.std.proofs.Common.{◌≡◌, ℕ, ◌+◌, ◌-◌, ◌*◌, ◌/◌, ◌%◌, ◌<◌, ◌≤◌, Bool, true, false, List, [], ◌∷◌, ◌++◌, map, length, refl, ap, ap₂, sym, ◌∙◌, subst, arith, append_assoc}
+use Rattle.std.proofs.Common.{◌≡◌, ℕ, ◌+◌, ◌-◌, ◌*◌, ◌/◌, ◌%◌, ◌<◌, ◌≤◌, Bool, true, false, List, [], ◌∷◌, ◌++◌, map}
+use Rattle.std.proofs.Common.{length, refl, ap, ap₂, sym, ◌∙◌, subst, arith, append_assoc}
 use Rattle.std.specs.Prelude.{Option, Some, None, IfSome, ◌==◌, if◌then◌else◌}
 use Rattle.std.specs.List.{All, concat}
 use Rattle.std.specs.List.Sorted.{IsPermutation}
@@ -55,8 +56,10 @@ card-back card good =
     let suit : suit_at ((card_byte card - 1) / 13) ≡ card.suit =
     ap (λ (n : ℕ). suit_at (n / 13)) form ∙ ap suit_at (div-mul-add p 13 (r - 1) small) ∙ suit_of_place card.suit in
     let rank : (card_byte card - 1) % 13 + 1 ≡ r =
-    ap (λ (n : ℕ). n % 13 + 1) form ∙ ap (λ (n : ℕ). n + 1) (mod-mul-add p 13 (r - 1) small) ∙ (let e : r - 1 + 1 ≡ r = omega arith in e) in
-    let whole : card_of_byte (card_byte card) ≡ card = ap₂ (λ (s : Suit) (n : ℕ). record { suit = s; rank = n }) suit rank in
+    ap (λ (n : ℕ). n % 13 + 1) form ∙ ap (λ (n : ℕ). n + 1) (mod-mul-add p 13 (r - 1) small)
+    ∙ (let e : r - 1 + 1 ≡ r = omega arith in e) in
+    let whole : card_of_byte (card_byte card) ≡ card = ap₂
+    (λ (s : Suit) (n : ℕ). record { suit = s; rank = n }) suit rank in
     whole
 
 entry_some : (n : ℕ) → 0 < n → entry_of_byte n ≡ Some (card_of_byte n)
@@ -64,9 +67,11 @@ entry_some n h = let no : (n == 0) ≡ false = ne_eqb n 0 (λ e. omega arith) in
 
 pub entry-back : (entry : Option Card) → IsGoodEntry entry → entry_of_byte (entry_byte entry) ≡ entry
 entry-back None good = refl
-entry-back (Some card) good = entry_some (card_byte card) (omega arith) ∙ ap (λ (c : Card). Some c) (card-back card good)
+entry-back (Some card) good = entry_some (card_byte card) (omega arith)
+    ∙ ap (λ (c : Card). Some c) (card-back card good)
 
-pub map-back : {A B : Type 0} (f : A → B) (g : B → A) (P : A → Type 0) → ((x : A) → P x → g (f x) ≡ x) → (xs : List A) → All P xs → map g (map f xs) ≡ xs
+pub map-back : {A B : Type 0} (f : A → B) (g : B → A) (P : A → Type 0) → ((x : A) → P x → g (f x) ≡ x) → (xs : List A)
+    → All P xs → map g (map f xs) ≡ xs
 map-back f g P back [] all = refl
 map-back {A = A} f g P back (x ∷ xs) all =
     ap₂ (λ (y : A) (ys : List A). y ∷ ys) (back x (All-head P x xs all)) (map-back f g P back xs (All-tail P x xs all))
@@ -75,22 +80,26 @@ pub cards-back : (cards : List Card) → All IsGood cards → map card_of_byte (
 cards-back cards all = map-back card_byte card_of_byte IsGood card-back cards all
 
 pub pile-back : (pile : Pile) → IsGoodPile pile → pile_of_bytes (pile_bytes pile) ≡ pile
-pile-back pile good = ap (λ (cards : List Card). record { cards = cards; face_down = pile.face_down }) (cards-back pile.cards good)
+pile-back pile good = ap (λ (cards : List Card). record { cards = cards; face_down = pile.face_down })
+    (cards-back pile.cards good)
 
 pub row-back : (row : List (Option Card)) → All IsGoodEntry row → map entry_of_byte (row_bytes row) ≡ row
 row-back row all = map-back entry_byte entry_of_byte IsGoodEntry entry-back row all
 
 -- lists whose bytes are equal, or equal up to order
-pub same-from_bytes : {A B : Type 0} (f : A → B) (g : B → A) (P : A → Type 0) → ((x : A) → P x → g (f x) ≡ x) → (xs ys : List A) → All P xs → All P ys
+pub same-from_bytes : {A B : Type 0} (f : A → B) (g : B → A) (P : A → Type 0) → ((x : A) → P x → g (f x) ≡ x)
+    → (xs ys : List A) → All P xs → All P ys
     → map f xs ≡ map f ys → xs ≡ ys
 same-from_bytes {B = B} f g P back xs ys all_x all_y e =
     sym (map-back f g P back xs all_x) ∙ ap (λ (zs : List B). map g zs) e ∙ map-back f g P back ys all_y
 
-pub permutation-from_bytes : {A B : Type 0} (f : A → B) (g : B → A) (P : A → Type 0) → ((x : A) → P x → g (f x) ≡ x) → (xs ys : List A) → All P xs → All P ys
+pub permutation-from_bytes : {A B : Type 0} (f : A → B) (g : B → A) (P : A → Type 0) → ((x : A) → P x → g (f x) ≡ x)
+    → (xs ys : List A) → All P xs → All P ys
     → IsPermutation (map f xs) (map f ys) → IsPermutation xs ys
 permutation-from_bytes {A = A} f g P back xs ys all_x all_y h =
     let there : IsPermutation (map g (map f xs)) (map g (map f ys)) = IsPermutation-map g (map f xs) (map f ys) h in
-    let one : IsPermutation xs (map g (map f ys)) = subst (λ (zs : List A). IsPermutation zs (map g (map f ys))) (map-back f g P back xs all_x) there in
+    let one : IsPermutation xs (map g (map f ys)) = subst (λ (zs : List A). IsPermutation zs (map g (map f ys)))
+    (map-back f g P back xs all_x) there in
     subst (λ (zs : List A). IsPermutation xs zs) (map-back f g P back ys all_y) one
 
 -- ---- a list of bytes taken apart
@@ -112,7 +121,8 @@ counted_split xs ys r s e =
     let rest : xs ++ r ≡ ys ++ s = cc in
     same_split xs ys r s size rest
 
-pub if_split : (t : Bool) (x y r s : List ℕ) → length x ≡ length y → (if t then x else []) ++ r ≡ (if t then y else []) ++ s → (t ≡ true → x ≡ y) × (r ≡ s)
+pub if_split : (t : Bool) (x y r s : List ℕ) → length x ≡ length y → (if t then x else []) ++ r ≡ (if t then y else [])
+    ++ s → (t ≡ true → x ≡ y) × (r ≡ s)
 if_split true x y r s size e = let parts = same_split x y r s size e in (λ _. parts.0, parts.1)
 if_split false x y r s size e = (λ h. cc, e)
 
@@ -120,13 +130,15 @@ if_split false x y r s size e = (λ h. cc, e)
 abbrev pub Splits : (List ℕ → Type 0) → Type 0
 Splits P = (p q r s : List ℕ) → P p → P q → p ++ r ≡ q ++ s → (p ≡ q) × (r ≡ s)
 
-pub concat_split : (P : List ℕ → Type 0) → Splits P → (ps qs : List (List ℕ)) (r s : List ℕ) → All P ps → All P qs → length ps ≡ length qs
+pub concat_split : (P : List ℕ → Type 0) → Splits P → (ps qs : List (List ℕ)) (r s : List ℕ) → All P ps → All P qs
+    → length ps ≡ length qs
     → concat ps ++ r ≡ concat qs ++ s → (ps ≡ qs) × (r ≡ s)
 concat_split P splits [] [] r s all_p all_q size e = (refl, e)
 concat_split P splits [] (q ∷ qs) r s all_p all_q size e = absurd (omega arith)
 concat_split P splits (p ∷ ps) [] r s all_p all_q size e = absurd (omega arith)
 concat_split P splits (p ∷ ps) (q ∷ qs) r s all_p all_q size e =
-    let whole : p ++ (concat ps ++ r) ≡ q ++ (concat qs ++ s) = sym (append_assoc p (concat ps) r) ∙ e ∙ append_assoc q (concat qs) s in
+    let whole : p ++ (concat ps ++ r) ≡ q ++ (concat qs ++ s) = sym (append_assoc p (concat ps) r) ∙ e
+    ∙ append_assoc q (concat qs) s in
     let first = splits p q (concat ps ++ r) (concat qs ++ s) (All-head P p ps all_p) (All-head P q qs all_q) whole in
     let n : length ps ≡ length qs = omega arith in
     let rest = concat_split P splits ps qs r s (All-tail P p ps all_p) (All-tail P q qs all_q) n first.1 in

@@ -1,5 +1,6 @@
 -- How long a key is.
-use Rattle.std.proofs.Common.{◌≡◌, ℕ, ◌+◌, ◌*◌, ◌≤◌, Bool, true, false, ◌&&◌, List, [], ◌∷◌, ◌++◌, map, length, refl, ap, ◌∙◌, arith, length-append}
+use Rattle.std.proofs.Common.{◌≡◌, ℕ, ◌+◌, ◌*◌, ◌≤◌, Bool, true, false, ◌&&◌, List, [], ◌∷◌, ◌++◌, map, length, refl}
+use Rattle.std.proofs.Common.{ap, ◌∙◌, arith, length-append}
 use Rattle.std.specs.Prelude.{not, nat_eq, Option, Some, None, if◌then◌else◌}
 use Rattle.std.specs.List.{sum_by, concat}
 use Rattle.std.specs.Ordering.{nat_cmp}
@@ -22,7 +23,9 @@ use Rattle.game_rules.specs.Conflicts.{IsPlayable, HasLimits, has_parts_beside_r
 use Rattle.game_rules.specs.Board.{Board, Pile, top_of}
 use Rattle.game_rules.specs.Belonging.{Belongs}
 use Rattle.same_boards.specs.Same.{keeps_pile_order, heights_of_suit}
-use Rattle.same_boards.specs.Keys.{sorted, sorted_bytes, sorted_lists, card_byte, card_bytes, entry_byte, cards_in, hole_bytes, cell_bytes, reserve_bytes, pile_bytes, piles_bytes, rows_bytes, key_bytes, key_with}
+use Rattle.same_boards.specs.Keys.{sorted, sorted_bytes, sorted_lists, card_byte, card_bytes, entry_byte, cards_in}
+use Rattle.same_boards.specs.Keys.{hole_bytes, cell_bytes, reserve_bytes, pile_bytes, piles_bytes, rows_bytes}
+use Rattle.same_boards.specs.Keys.{key_bytes, key_with}
 use Rattle.game_rules.proofs.Limits.{limits_of, both}
 use Rattle.same_boards.proofs.Sorting.{sorted-permutation}
 use Rattle.same_boards.proofs.KeysSame.{all_heights, suit_size, sorted_rows, sorted_rows-long, sorted_rows-size}
@@ -34,11 +37,13 @@ use Rattle.same_boards.proofs.BoardCards.{cards_of_piles, cards_of_board}
 pub sorted-size : {A : Type 0} (R : A → A → Ordering) (xs : List A) → length (sorted R xs) ≡ length xs
 sorted-size R xs = length_permutation xs (sorted R xs) (sorted-permutation R xs)
 
-pub cells-size : (entries : List (Option Card)) → length (sorted_bytes (card_bytes (cards_in entries))) ≡ length (cards_in entries)
+pub cells-size : (entries : List (Option Card))
+    → length (sorted_bytes (card_bytes (cards_in entries))) ≡ length (cards_in entries)
 cells-size entries = sorted-size nat_cmp (card_bytes (cards_in entries)) ∙ length-map (cards_in entries) card_byte
 
 pub reserve-size : (t : Bool) (entries : List (Option Card))
-    → length (if t then card_bytes (cards_in entries) else sorted_bytes (card_bytes (cards_in entries))) ≡ length (cards_in entries)
+    → length (if t then card_bytes (cards_in entries) else sorted_bytes (card_bytes (cards_in entries)))
+    ≡ length (cards_in entries)
 reserve-size true entries = length-map (cards_in entries) card_byte
 reserve-size false entries = cells-size entries
 
@@ -58,9 +63,11 @@ heights-size rules board =
     omega (arith, e₁, e₂, e₃, n₀, n₁, n₂, n₃)
 
 concat-size : (lists : List (List ℕ)) → length (concat lists) ≡ sum_by (λ (list : List ℕ). length list) lists
-concat-size lists = ap (λ (bytes : List ℕ). length bytes) (concat_is lists) ∙ length-flat_map (λ (list : List ℕ). list) lists
+concat-size lists = ap (λ (bytes : List ℕ). length bytes) (concat_is lists)
+    ∙ length-flat_map (λ (list : List ℕ). list) lists
 
-pile_lists-size : (piles : List Pile) → sum_by (λ (list : List ℕ). length list) (map pile_bytes piles) ≡ 2 * length piles + length (cards_of_piles piles)
+pile_lists-size : (piles : List Pile)
+    → sum_by (λ (list : List ℕ). length list) (map pile_bytes piles) ≡ 2 * length piles + length (cards_of_piles piles)
 pile_lists-size [] = refl
 pile_lists-size (pile ∷ piles) =
     let step = sum_by-cons (λ (list : List ℕ). length list) (pile_bytes pile) (map pile_bytes piles) in
@@ -69,24 +76,31 @@ pile_lists-size (pile ∷ piles) =
     let rest = pile_lists-size piles in
     omega (arith, step, one, whole, rest)
 
-piles-size : (t : Bool) (piles : List Pile) → length (concat (if t then map pile_bytes piles else sorted_lists (map pile_bytes piles))) ≡ 2 * length piles + length (cards_of_piles piles)
+piles-size : (t : Bool) (piles : List Pile)
+    → length (concat (if t then map pile_bytes piles else sorted_lists (map pile_bytes piles))) ≡ 2 * length piles
+    + length (cards_of_piles piles)
 piles-size true piles = concat-size (map pile_bytes piles) ∙ pile_lists-size piles
 piles-size false piles =
     concat-size (sorted_lists (map pile_bytes piles))
-    ∙ sum_by-IsPermutation (λ (list : List ℕ). length list) (map pile_bytes piles) (sorted_lists (map pile_bytes piles)) (sorted-permutation (slice_cmp nat_cmp) (map pile_bytes piles))
+    ∙ sum_by-IsPermutation (λ (list : List ℕ). length list) (map pile_bytes piles) (sorted_lists (map pile_bytes piles))
+    (sorted-permutation (slice_cmp nat_cmp) (map pile_bytes piles))
     ∙ pile_lists-size piles
 
 at_most_same : (a b : ℕ) → a ≡ b → a ≤ b
 at_most_same a b e = omega arith
 
-rows-size : (rules : RuleParts) (board : Board) → length board.slots ≡ 4 * rules.decks * rules.max_rank → length (concat (sorted_rows rules board)) ≤ 4 * rules.decks * rules.max_rank
+rows-size : (rules : RuleParts) (board : Board) → length board.slots ≡ 4 * rules.decks * rules.max_rank
+    → length (concat (sorted_rows rules board)) ≤ 4 * rules.decks * rules.max_rank
 rows-size rules board size =
     let sum = concat-size (sorted_rows rules board) in
-    let most : sum_by (λ (list : List ℕ). length list) (sorted_rows rules board) ≤ length (sorted_rows rules board) * rules.max_rank =
+    let most : sum_by (λ (list : List ℕ). length list) (sorted_rows rules board) ≤ length (sorted_rows rules board)
+    * rules.max_rank =
     sum_by-le (λ (list : List ℕ). length list) rules.max_rank (sorted_rows rules board)
-    (All-weaker (λ (row : List ℕ). length row ≡ rules.max_rank) (λ (row : List ℕ). length row ≤ rules.max_rank) (λ row e. at_most_same (length row) rules.max_rank e)
+    (All-weaker (λ (row : List ℕ). length row ≡ rules.max_rank) (λ (row : List ℕ). length row ≤ rules.max_rank)
+    (λ row e. at_most_same (length row) rules.max_rank e)
     (sorted_rows rules board) (sorted_rows-long rules board size)) in
-    let count : length (sorted_rows rules board) * rules.max_rank ≡ 4 * rules.decks * rules.max_rank = ap (λ (n : ℕ). n * rules.max_rank) (sorted_rows-size rules board) in
+    let count : length (sorted_rows rules board) * rules.max_rank ≡ 4 * rules.decks * rules.max_rank =
+    ap (λ (n : ℕ). n * rules.max_rank) (sorted_rows-size rules board) in
     omega (arith, sum, most, count)
 
 -- ---- games of sequences have their cards in rows alone
@@ -113,12 +127,20 @@ pub record RowsAlone (rules : RuleParts) : Type 0 where
 
 pub rows_alone : (rules : RuleParts) → IsPlayable rules → is_sequence_goal rules.goal ≡ true → RowsAlone rules
 rows_alone rules playable goal =
-    let none : has_parts_beside_rows rules ≡ false = first_false (has_parts_beside_rows rules) 2 _ playable.no_conflict in
-    let all = no_other (is_sequence_goal rules.goal) (nat_eq rules.piles 0 && nat_eq rules.cells 0 && nat_eq rules.reserve 0 && nat_eq rules.stock 0) goal none in
-    let three = both (nat_eq rules.piles 0 && nat_eq rules.cells 0 && nat_eq rules.reserve 0) (nat_eq rules.stock 0) all in
+    let none : has_parts_beside_rows rules ≡ false = first_false
+    (has_parts_beside_rows rules) 2 _ playable.no_conflict in
+    let all = no_other (is_sequence_goal rules.goal)
+    (nat_eq rules.piles 0 && nat_eq rules.cells 0 && nat_eq rules.reserve 0 && nat_eq rules.stock 0) goal none in
+    let three = both (nat_eq rules.piles 0 && nat_eq rules.cells 0 && nat_eq rules.reserve 0)
+    (nat_eq rules.stock 0) all in
     let two = both (nat_eq rules.piles 0 && nat_eq rules.cells 0) (nat_eq rules.reserve 0) three.0 in
     let one = both (nat_eq rules.piles 0) (nat_eq rules.cells 0) two.0 in
-    record { piles = eqb-true rules.piles 0 one.0; cells = eqb-true rules.cells 0 one.1; reserve = eqb-true rules.reserve 0 two.1; stock = eqb-true rules.stock 0 three.1 }
+    record {
+      piles = eqb-true rules.piles 0 one.0;
+      cells = eqb-true rules.cells 0 one.1;
+      reserve = eqb-true rules.reserve 0 two.1;
+      stock = eqb-true rules.stock 0 three.1;
+    }
 
 -- ---- the whole key
 
@@ -147,16 +169,21 @@ whole_if true n m e h = h
 whole_if false n m e h = cc
 
 -- the heights and the hole take at most 8 bytes together
-small_parts : (rules : RuleParts) (board : Board) (heights : List ℕ) → HasLimits rules → length heights ≡ 4 * rules.decks
+small_parts : (rules : RuleParts) (board : Board) (heights : List ℕ) → HasLimits rules
+    → length heights ≡ 4 * rules.decks
     → length (if is_foundation_goal rules.goal then heights else []) + length (hole_bytes rules board) ≤ 8
 small_parts rules board heights limits n =
     let decks : rules.decks ≤ 2 = limits.decks in
-    let h : length (if is_foundation_goal rules.goal then heights else []) ≤ length heights = if_kept (is_foundation_goal rules.goal) heights in
-    let o : length (hole_bytes rules board) ≤ 2 = if_kept (is_hole_goal rules.goal) (length board.hole ∷ entry_byte (top_of board.hole) ∷ []) in
+    let h : length (if is_foundation_goal rules.goal then heights else []) ≤ length heights = if_kept
+    (is_foundation_goal rules.goal) heights in
+    let o : length (hole_bytes rules board) ≤ 2 = if_kept (is_hole_goal rules.goal)
+    (length board.hole ∷ entry_byte (top_of board.hole) ∷ []) in
     either (cases_Bool (is_hole_goal rules.goal))
-    (λ yes. let none : length (if is_foundation_goal rules.goal then heights else []) ≡ 0 = if_left_out (is_foundation_goal rules.goal) heights (no_foundations rules.goal yes) in
+    (λ yes. let none : length (if is_foundation_goal rules.goal then heights else []) ≡ 0 = if_left_out
+    (is_foundation_goal rules.goal) heights (no_foundations rules.goal yes) in
     omega (arith, none, o))
-    (λ no. let none : length (hole_bytes rules board) ≡ 0 = if_left_out (is_hole_goal rules.goal) (length board.hole ∷ entry_byte (top_of board.hole) ∷ []) no in
+    (λ no. let none : length (hole_bytes rules board) ≡ 0 = if_left_out (is_hole_goal rules.goal)
+    (length board.hole ∷ entry_byte (top_of board.hole) ∷ []) no in
     omega (arith, none, h, n, decks))
 
 -- the length of the pieces of a key one after the other
@@ -178,32 +205,40 @@ piece-lengths s w h o c r p q =
 -- the length is the sum of the parts
 pub key-length : (rules : RuleParts) (board : Board) (h : List ℕ) → length (key_with h rules board)
     ≡ 5 + length board.stock + length board.waste + length h + length (hole_bytes rules board)
-    + length (cards_in board.cells) + length (cards_in board.reserve) + (2 * length board.piles + length (cards_of_piles board.piles)) + length (rows_bytes rules board)
+    + length (cards_in board.cells) + length (cards_in board.reserve)
+    + (2 * length board.piles + length (cards_of_piles board.piles)) + length (rows_bytes rules board)
 key-length rules board h =
-    let pieces = piece-lengths (card_bytes board.stock) (card_bytes board.waste) h (hole_bytes rules board) (cell_bytes board)
+    let pieces = piece-lengths (card_bytes board.stock) (card_bytes board.waste) h (hole_bytes rules board)
+    (cell_bytes board)
     (reserve_bytes rules board) (concat (piles_bytes rules board)) (rows_bytes rules board) in
     let n₁ : length (card_bytes board.stock) ≡ length board.stock = length-map board.stock card_byte in
     let n₂ : length (card_bytes board.waste) ≡ length board.waste = length-map board.waste card_byte in
     let n₃ : length (cell_bytes board) ≡ length (cards_in board.cells) = cells-size board.cells in
-    let n₄ : length (reserve_bytes rules board) ≡ length (cards_in board.reserve) = reserve-size rules.stacked board.reserve in
+    let n₄ : length (reserve_bytes rules board) ≡ length (cards_in board.reserve) =
+    reserve-size rules.stacked board.reserve in
     let n₅ : length (concat (piles_bytes rules board)) ≡ 2 * length board.piles + length (cards_of_piles board.piles) =
     piles-size (keeps_pile_order rules board) board.piles in
     omega (arith, pieces, n₁, n₂, n₃, n₄, n₅)
 
 -- the cards that a key names, piece by piece
 board-lengths : (board : Board) → length (cards_of_board board)
-    ≡ length (cards_of_piles board.piles) + length (cards_in board.cells) + length (cards_in board.reserve) + length board.stock
+    ≡ length (cards_of_piles board.piles) + length (cards_in board.cells) + length (cards_in board.reserve)
+    + length board.stock
     + length board.waste + length board.hole + length (cards_in board.slots)
 board-lengths board =
-    let e₁ = length-append (cards_of_piles board.piles) (cards_in board.cells ++ (cards_in board.reserve ++ (board.stock ++ (board.waste ++ (board.hole ++ cards_in board.slots))))) in
-    let e₂ = length-append (cards_in board.cells) (cards_in board.reserve ++ (board.stock ++ (board.waste ++ (board.hole ++ cards_in board.slots)))) in
-    let e₃ = length-append (cards_in board.reserve) (board.stock ++ (board.waste ++ (board.hole ++ cards_in board.slots))) in
+    let e₁ = length-append (cards_of_piles board.piles) (cards_in board.cells
+    ++ (cards_in board.reserve ++ (board.stock ++ (board.waste ++ (board.hole ++ cards_in board.slots))))) in
+    let e₂ = length-append (cards_in board.cells)
+    (cards_in board.reserve ++ (board.stock ++ (board.waste ++ (board.hole ++ cards_in board.slots)))) in
+    let e₃ = length-append (cards_in board.reserve)
+    (board.stock ++ (board.waste ++ (board.hole ++ cards_in board.slots))) in
     let e₄ = length-append board.stock (board.waste ++ (board.hole ++ cards_in board.slots)) in
     let e₅ = length-append board.waste (board.hole ++ cards_in board.slots) in
     let e₆ = length-append board.hole (cards_in board.slots) in
     omega (arith, e₁, e₂, e₃, e₄, e₅, e₆)
 
-pub board-size : (board : Board) → length (cards_of_piles board.piles) + length (cards_in board.cells) + length (cards_in board.reserve) + length board.stock + length board.waste
+pub board-size : (board : Board) → length (cards_of_piles board.piles) + length (cards_in board.cells)
+    + length (cards_in board.reserve) + length board.stock + length board.waste
     ≤ length (cards_of_board board)
 board-size board = omega (arith, board-lengths board)
 
@@ -218,7 +253,8 @@ pub record IsSmall (rules : RuleParts) (board : Board) : Type 0 where
   pub reserve : length board.reserve ≤ rules.reserve
   pub stock : length board.stock + length board.waste ≤ rules.stock
   pub slots : length board.slots ≡ (if is_sequence_goal rules.goal then 4 * rules.decks * rules.max_rank else 0)
-  pub cards : length (cards_of_piles board.piles) + length (cards_in board.cells) + length (cards_in board.reserve) + length board.stock + length board.waste ≤ 52 * rules.decks
+  pub cards : length (cards_of_piles board.piles) + length (cards_in board.cells) + length (cards_in board.reserve)
+      + length board.stock + length board.waste ≤ 52 * rules.decks
 
 pub small_board : (rules : RuleParts) (board : Board) → HasLimits rules → Belongs rules board → IsSmall rules board
 small_board rules board limits belongs =
@@ -234,7 +270,8 @@ small_board rules board limits belongs =
     }
 
 -- a key has at most 157 bytes, with any heights that are as many as the foundations
-pub key_with-short : (rules : RuleParts) (board : Board) (heights : List ℕ) → IsPlayable rules → IsSmall rules board → length heights ≡ 4 * rules.decks
+pub key_with-short : (rules : RuleParts) (board : Board) (heights : List ℕ) → IsPlayable rules → IsSmall rules board
+    → length heights ≡ 4 * rules.decks
     → length (key_with (if is_foundation_goal rules.goal then heights else []) rules board) ≤ 157
 key_with-short rules board heights playable size height_count =
     let limits : HasLimits rules = limits_of rules playable in
@@ -243,10 +280,13 @@ key_with-short rules board heights playable size height_count =
     let small = small_parts rules board heights limits height_count in
     either (cases_Bool (is_sequence_goal rules.goal))
     (λ yes. let alone : RowsAlone rules = rows_alone rules playable yes in
-    let slots : length board.slots ≡ 4 * rules.decks * rules.max_rank = whole_if (is_sequence_goal rules.goal) _ _ yes size.slots in
-    let rows : length (rows_bytes rules board) ≤ length (concat (sorted_rows rules board)) = if_kept (is_sequence_goal rules.goal) (concat (sorted_rows rules board)) in
+    let slots : length board.slots ≡ 4 * rules.decks * rules.max_rank = whole_if
+    (is_sequence_goal rules.goal) _ _ yes size.slots in
+    let rows : length (rows_bytes rules board) ≤ length (concat (sorted_rows rules board)) = if_kept
+    (is_sequence_goal rules.goal) (concat (sorted_rows rules board)) in
     let rows_most = rows-size rules board slots in
-    let few : 4 * rules.decks * rules.max_rank ≤ 8 * 13 = mul-le-mul (let d : 4 * rules.decks ≤ 8 = omega arith in d) limits.max_rank in
+    let few : 4 * rules.decks * rules.max_rank ≤ 8 * 13 = mul-le-mul
+    (let d : 4 * rules.decks ≤ 8 = omega arith in d) limits.max_rank in
     let piles : length board.piles ≡ 0 = size.piles ∙ alone.piles in
     let no_piles : length (cards_of_piles board.piles) ≡ 0 = no_cards board.piles piles in
     let cells : length (cards_in board.cells) ≤ length board.cells = cards_in-few board.cells in
@@ -256,16 +296,35 @@ key_with-short rules board heights playable size height_count =
     let none : rules.reserve ≡ 0 = alone.reserve in
     let stock : length board.stock + length board.waste ≤ rules.stock = size.stock in
     let no_stock : rules.stock ≡ 0 = alone.stock in
-    omega (arith, whole, small, rows, rows_most, few, piles, no_piles, cells, no_cells, reserve, no_reserve, none, stock, no_stock))
-    (λ no. let rows : length (rows_bytes rules board) ≡ 0 = if_left_out (is_sequence_goal rules.goal) (concat (sorted_rows rules board)) no in
+    omega (
+      arith,
+      whole,
+      small,
+      rows,
+      rows_most,
+      few,
+      piles,
+      no_piles,
+      cells,
+      no_cells,
+      reserve,
+      no_reserve,
+      none,
+      stock,
+      no_stock,
+    ))
+    (λ no. let rows : length (rows_bytes rules board) ≡ 0 = if_left_out (is_sequence_goal rules.goal)
+    (concat (sorted_rows rules board)) no in
     let cards = size.cards in
     let piles : length board.piles ≡ rules.piles = size.piles in
     let most : rules.piles ≤ 20 = limits.piles in
     omega (arith, whole, small, rows, cards, piles, most, decks))
 
-pub key-short : (rules : RuleParts) (board : Board) → IsPlayable rules → Belongs rules board → length (key_bytes rules board) ≤ 157
+pub key-short : (rules : RuleParts) (board : Board) → IsPlayable rules → Belongs rules board
+    → length (key_bytes rules board) ≤ 157
 key-short rules board playable belongs =
-    key_with-short rules board (all_heights rules board) playable (small_board rules board (limits_of rules playable) belongs) (heights-size rules board)
+    key_with-short rules board (all_heights rules board) playable
+    (small_board rules board (limits_of rules playable) belongs) (heights-size rules board)
 
 pub hole-few : (board : Board) → length board.hole ≤ length (cards_of_board board)
 hole-few board = omega (arith, board-lengths board)

@@ -25,6 +25,8 @@ agrees rules start playable belongs =
     let is = reached-belongs rules (Won rules) (keyed_game rules).Same playable start in
     record {
       wins = λ s reached won. won;
-      same = λ s t reached reached'. (keys-compared rules s t playable (is s belongs reached) (is t belongs reached')).0;
-      same' = λ s t reached reached'. (keys-compared rules s t playable (is s belongs reached) (is t belongs reached')).1;
+      same = λ s t reached reached'.
+          (keys-compared rules s t playable (is s belongs reached) (is t belongs reached')).0;
+      same' = λ s t reached reached'.
+          (keys-compared rules s t playable (is s belongs reached) (is t belongs reached')).1;
     }

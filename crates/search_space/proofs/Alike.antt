@@ -22,6 +22,7 @@ plain_game-is_alike rules = record { itself = Same-refl rules; back = Same-sym r
 pub keys-compared : (rules : RuleParts) (a b : Board) → IsPlayable rules → Belongs rules a → Belongs rules b
     → (pointwise nat_eq (key_bytes rules a) (key_bytes rules b) ≡ true) ↔ Same rules a b
 keys-compared rules a b playable belongs belongs' = (
-  λ equal. same-from_key rules a b playable belongs belongs' ((bytes_decides (key_bytes rules a) (key_bytes rules b)).0 equal),
+  λ equal. same-from_key rules a b playable belongs belongs'
+      ((bytes_decides (key_bytes rules a) (key_bytes rules b)).0 equal),
   λ same. (bytes_decides (key_bytes rules a) (key_bytes rules b)).1 (key-from_same rules a b same),
 )

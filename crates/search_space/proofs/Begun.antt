@@ -7,4 +7,5 @@ pub begun-more : {A : Type 0} (old more mid xs : List A) → mid ≡ old ++ more
     → take (length old) xs ≡ old
 begun-more old more mid xs e starts =
     let less : length old ≤ length mid = omega (arith, ap length e, length-append old more) in
-    sym (take-take (length old) (length mid) xs less) ∙ (ap (take (length old)) (starts ∙ e) ∙ take-append_seam old more)
+    sym (take-take (length old) (length mid) xs less)
+    ∙ (ap (take (length old)) (starts ∙ e) ∙ take-append_seam old more)

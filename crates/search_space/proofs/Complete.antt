@@ -21,11 +21,13 @@ use Rattle.search_space.specs.Plain.{play_of}
 use Rattle.search_space.proofs.Alike.{keys-compared}
 use Rattle.search_space.proofs.Reached.{by_steps, reached-belongs}
 
-won-at_once : (rules : RuleParts) (board last : Board) (moves : List Move) → length moves ≤ 0 → Line rules board moves last → Won rules last → Won rules board
+won-at_once : (rules : RuleParts) (board last : Board) (moves : List Move) → length moves ≤ 0
+    → Line rules board moves last → Won rules last → Won rules board
 won-at_once rules board last [] short line won = subst (Won rules) line won
 won-at_once rules board last (move ∷ moves) short line won = absurd (omega (arith, short))
 
-nearer-by_steps : (rules : RuleParts) (n : ℕ) (board : Board) → IsPlayable rules → Belongs rules board → (¬ Won rules board)
+nearer-by_steps : (rules : RuleParts) (n : ℕ) (board : Board) → IsPlayable rules → Belongs rules board
+    → (¬ Won rules board)
     → Wins rules (suc n) board → (t : Step) × Contains (steps rules board) t × Wins rules n (after_step rules board t)
 nearer-by_steps rules n board playable belongs not_won wins =
     let found : HasWinningStep rules n board =
@@ -33,7 +35,8 @@ nearer-by_steps rules n board playable belongs not_won wins =
     (found.step, found.listed, found.wins)
 
 -- a game of these steps is complete where no boards count as the same but those that are
-complete-up_to_same : (rules : RuleParts) (Counts : Board → Board → Type 0) (start : Board) → IsPlayable rules → Belongs rules start
+complete-up_to_same : (rules : RuleParts) (Counts : Board → Board → Type 0) (start : Board) → IsPlayable rules
+    → Belongs rules start
     → ((a b : Board) → Belongs rules a → Belongs rules b → Counts a b → Same rules a b)
     → IsComplete (by_steps rules (Won rules) Counts) (Wins rules) start
 complete-up_to_same rules Counts start playable belongs are =
@@ -43,7 +46,8 @@ complete-up_to_same rules Counts start playable belongs are =
       none = λ s reached wins. won-at_once rules s wins.end wins.moves wins.short wins.line wins.won;
       won = λ s reached is_won. record { moves = []; end = s; short = omega arith; line = refl; won = is_won };
       alike = λ n s t reached reached' counts wins.
-          same-wins rules s t n playable (is s reached) (is t reached') (are s t (is s reached) (is t reached') counts) wins;
+          same-wins rules s t n playable (is s reached) (is t reached')
+          (are s t (is s reached) (is t reached') counts) wins;
       nearer = λ n s reached not_won wins. nearer-by_steps rules n s playable (is s reached) not_won wins;
     }
 

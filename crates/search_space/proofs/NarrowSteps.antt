@@ -20,15 +20,18 @@ use Rattle.streamliner.specs.declared.Streamliner.TheVariants.{AutoFoundations, 
 use Rattle.streamliner.specs.Narrow.{narrow, is_carry_home}
 use Rattle.search_space.specs.Narrow.{narrow_steps}
 
-narrow-listed : (way : Streamliner) (moves : List Move) (move : Move) → narrow way moves ≡ Some move → Contains moves move
+narrow-listed : (way : Streamliner) (moves : List Move) (move : Move) → narrow way moves ≡ Some move
+    → Contains moves move
 narrow-listed AutoFoundations moves move e = find-listed is_carry_home moves move e
 narrow-listed SuitSymmetry moves move e = cc
 narrow-listed Both moves move e = find-listed is_carry_home moves move e
 
 -- a legal move is a step of its own
-made-at_once : (rules : RuleParts) (board : Board) (step : Step) → step.deals ≡ 0 → Legal rules board step.last → CanBeMade rules board step
+made-at_once : (rules : RuleParts) (board : Board) (step : Step) → step.deals ≡ 0 → Legal rules board step.last
+    → CanBeMade rules board step
 made-at_once rules board step none legal = record {
-  stock = record { to_waste = λ some. absurd (omega (arith, some, none)); each = λ i h. absurd (omega (arith, h, none)) };
+  stock =
+      record { to_waste = λ some. absurd (omega (arith, some, none)); each = λ i h. absurd (omega (arith, h, none)) };
   last = subst (λ (k : ℕ). Legal rules (after_stock_moves rules k board) step.last) (sym none) legal;
 }
 
@@ -52,10 +55,12 @@ narrow_steps-made rules way board step playable here =
     (λ other listed. steps-made rules board other (playable_draw rules playable) listed)
     step here
 
-forced-once : (forced : Option Move) (others : List Step) → AllPairs (λ a b. a ≢ b) others → AllPairs (λ a b. a ≢ b) (forced_or forced others)
+forced-once : (forced : Option Move) (others : List Step) → AllPairs (λ a b. a ≢ b) others
+    → AllPairs (λ a b. a ≢ b) (forced_or forced others)
 forced-once None others once = once
 forced-once (Some move) others once = λ i j d l m. absurd (omega (arith, l, m))
 
 pub narrow_steps-once : (rules : RuleParts) (way : Streamliner) (board : Board)
     → AllPairs (λ a b. a ≢ b) (narrow_steps rules way board)
-narrow_steps-once rules way board = forced-once (narrow way (legal_moves rules board)) (steps rules board) (steps-apart rules board)
+narrow_steps-once rules way board = forced-once (narrow way (legal_moves rules board)) (steps rules board)
+    (steps-apart rules board)

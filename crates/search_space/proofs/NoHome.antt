@@ -24,14 +24,16 @@ home-of from (Foundation f) count h = refl
 home-of from Hole count h = cc
 home-of from (Slot i) count h = cc
 
-safe-is_home : (rules : RuleParts) (board : Board) (move : Move) → is_safe rules board move ≡ true → is_carry_home move ≡ true
+safe-is_home : (rules : RuleParts) (board : Board) (move : Move) → is_safe rules board move ≡ true
+    → is_carry_home move ≡ true
 safe-is_home rules board (Carry from to count) h =
     let to_home = both _ _ h in
     home-of from to count (both _ (is_foundation to) to_home.0).1
 safe-is_home rules board Deal h = cc
 safe-is_home rules board Redeal h = cc
 
-find-none : (p q : Move → Bool) (moves : List Move) → ((move : Move) → q move ≡ true → p move ≡ true) → find p moves ≡ None → find q moves ≡ None
+find-none : (p q : Move → Bool) (moves : List Move) → ((move : Move) → q move ≡ true → p move ≡ true)
+    → find p moves ≡ None → find q moves ≡ None
 find-none p q [] implies none = refl
 find-none p q (move ∷ moves) implies none =
     elim (cases_Bool (p move)) [
@@ -45,7 +47,9 @@ find-none p q (move ∷ moves) implies none =
     ]
 
 -- then the steps are the free ones
-pub steps-free : (rules : RuleParts) (board : Board) → find is_carry_home (legal_moves rules board) ≡ None → steps rules board ≡ free_steps rules board
+pub steps-free : (rules : RuleParts) (board : Board) → find is_carry_home (legal_moves rules board) ≡ None
+    → steps rules board ≡ free_steps rules board
 steps-free rules board none =
-    let no_safe : first_safe rules board ≡ None = find-none is_carry_home (is_safe rules board) (legal_moves rules board) (safe-is_home rules board) none in
+    let no_safe : first_safe rules board ≡ None = find-none is_carry_home (is_safe rules board)
+    (legal_moves rules board) (safe-is_home rules board) none in
     ap (λ (forced : Option Move). forced_or forced (free_steps rules board)) no_safe

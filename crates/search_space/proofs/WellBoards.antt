@@ -28,7 +28,8 @@ rank-told card h =
     (leb-true 1 card.rank parts.0, leb-true card.rank 13 parts.1)
 
 rank-tested : (card : Card) → IsRank card.rank → is_within 1 13 card.rank ≡ true
-rank-tested card h = and_both (nat_le 1 card.rank) (nat_le card.rank 13) (le-leb 1 card.rank h.0) (le-leb card.rank 13 h.1)
+rank-tested card h = and_both (nat_le 1 card.rank) (nat_le card.rank 13) (le-leb 1 card.rank h.0)
+    (le-leb card.rank 13 h.1)
 
 cards-told : (cards : List Card) → IsTrue (are_cards cards) → AreCards cards
 cards-told cards h =
@@ -38,7 +39,8 @@ cards-told cards h =
 cards-tested : (cards : List Card) → AreCards cards → IsTrue (are_cards cards)
 cards-tested cards h =
     list_all-from_AllPass (λ (card : Card). is_within 1 13 card.rank) cards
-    (All-weaker (λ (card : Card). IsRank card.rank) (λ (card : Card). is_within 1 13 card.rank ≡ true) rank-tested cards h)
+    (All-weaker (λ (card : Card). IsRank card.rank) (λ (card : Card). is_within 1 13 card.rank ≡ true)
+    rank-tested cards h)
 
 entry-told : (entry : Option Card) → are_cards (option_to_list entry) ≡ true → IfSome entry (λ card. IsRank card.rank)
 entry-told None h = tt
@@ -50,23 +52,29 @@ entry-tested (Some card) h = and_both (is_within 1 13 card.rank) true (rank-test
 
 entries-told : (entries : List (Option Card)) → IsTrue (are_entries entries) → AreEntries entries
 entries-told entries h =
-    All-weaker (λ (e : Option Card). are_cards (option_to_list e) ≡ true) (λ (e : Option Card). IfSome e (λ card. IsRank card.rank)) entry-told entries
+    All-weaker (λ (e : Option Card). are_cards (option_to_list e) ≡ true)
+    (λ (e : Option Card). IfSome e (λ card. IsRank card.rank)) entry-told entries
     (AllPass-from_list_all (λ (e : Option Card). are_cards (option_to_list e)) entries h)
 
 entries-tested : (entries : List (Option Card)) → AreEntries entries → IsTrue (are_entries entries)
 entries-tested entries h =
     list_all-from_AllPass (λ (e : Option Card). are_cards (option_to_list e)) entries
-    (All-weaker (λ (e : Option Card). IfSome e (λ card. IsRank card.rank)) (λ (e : Option Card). are_cards (option_to_list e) ≡ true) entry-tested entries h)
+    (All-weaker (λ (e : Option Card). IfSome e (λ card. IsRank card.rank))
+    (λ (e : Option Card). are_cards (option_to_list e) ≡ true) entry-tested entries h)
 
-piles-told : (piles : List Pile) → IsTrue (list_all (λ pile. are_cards pile.cards) piles) → All (λ pile. AreCards pile.cards) piles
+piles-told : (piles : List Pile) → IsTrue (list_all (λ pile. are_cards pile.cards) piles)
+    → All (λ pile. AreCards pile.cards) piles
 piles-told piles h =
-    All-weaker (λ (p : Pile). are_cards p.cards ≡ true) (λ (p : Pile). AreCards p.cards) (λ (p : Pile) (k : are_cards p.cards ≡ true). cards-told p.cards k) piles
+    All-weaker (λ (p : Pile). are_cards p.cards ≡ true) (λ (p : Pile). AreCards p.cards)
+    (λ (p : Pile) (k : are_cards p.cards ≡ true). cards-told p.cards k) piles
     (AllPass-from_list_all (λ (p : Pile). are_cards p.cards) piles h)
 
-piles-tested : (piles : List Pile) → All (λ pile. AreCards pile.cards) piles → IsTrue (list_all (λ pile. are_cards pile.cards) piles)
+piles-tested : (piles : List Pile) → All (λ pile. AreCards pile.cards) piles
+    → IsTrue (list_all (λ pile. are_cards pile.cards) piles)
 piles-tested piles h =
     list_all-from_AllPass (λ (p : Pile). are_cards p.cards) piles
-    (All-weaker (λ (p : Pile). AreCards p.cards) (λ (p : Pile). are_cards p.cards ≡ true) (λ (p : Pile) (k : AreCards p.cards). cards-tested p.cards k) piles h)
+    (All-weaker (λ (p : Pile). AreCards p.cards) (λ (p : Pile). are_cards p.cards ≡ true)
+    (λ (p : Pile) (k : AreCards p.cards). cards-tested p.cards k) piles h)
 
 pub ranks-told : (board : Board) → IsTrue (has_ranks board) → HasRanks board
 ranks-told board h =
@@ -119,10 +127,12 @@ none-tested None h = refl
 none-tested (Some x) h = cc
 
 -- a board that passes belongs to the rules
-pub belongs-of_well : (rules : RuleParts) (board : Board) → HasLimits rules → is_well rules board ≡ true → Belongs rules board
+pub belongs-of_well : (rules : RuleParts) (board : Board) → HasLimits rules → is_well rules board ≡ true
+    → Belongs rules board
 unfolding is_well
 belongs-of_well rules board limits well =
-    let to_ranks = both (has_places rules board && has_ranks board) (is_none (fault_of rules (parts_of rules board))) well in
+    let to_ranks = both (has_places rules board && has_ranks board)
+    (is_none (fault_of rules (parts_of rules board))) well in
     let to_places = both (has_places rules board) (has_ranks board) to_ranks.0 in
     let same = board-of_its_places rules board (places-told rules board to_places.0) in
     subst (Belongs rules) same
@@ -130,7 +140,8 @@ belongs-of_well rules board limits well =
     (none-told (fault_of rules (parts_of rules board)) to_ranks.1))
 
 -- and a board that belongs to them passes
-pub is_well-of_belongs : (rules : RuleParts) (board : Board) → HasLimits rules → Belongs rules board → is_well rules board ≡ true
+pub is_well-of_belongs : (rules : RuleParts) (board : Board) → HasLimits rules → Belongs rules board
+    → is_well rules board ≡ true
 unfolding is_well
 is_well-of_belongs rules board limits belongs =
     and_both _ _

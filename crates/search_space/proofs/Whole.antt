@@ -15,7 +15,8 @@ use Rattle.search_space.specs.Well.{has_places}
 pub record HasPlaces (rules : RuleParts) (board : Board) : Type 0 where
   pub piles : length board.piles ≡ rules.piles
   pub cells : length board.cells ≡ rules.cells
-  pub reserve : IsTrue (if rules.stacked then list_all (λ e. is_some e) board.reserve else length board.reserve == rules.reserve)
+  pub reserve : IsTrue
+      (if rules.stacked then list_all (λ e. is_some e) board.reserve else length board.reserve == rules.reserve)
   pub foundations : length board.heights ≡ foundation_count rules
   pub slots : length board.slots ≡ slot_count rules
 
@@ -33,7 +34,8 @@ places-told rules board h =
       slots = eqb-true (length board.slots) (slot_count rules) to_heights.1;
     }
 
-pub board-of_its_places : (rules : RuleParts) (board : Board) → HasPlaces rules board → board_of_parts rules (parts_of rules board) ≡ board
+pub board-of_its_places : (rules : RuleParts) (board : Board) → HasPlaces rules board
+    → board_of_parts rules (parts_of rules board) ≡ board
 board-of_its_places rules board places =
     six board _ _ _ _ _ (piles-whole rules board places.piles) (filled-whole rules.cells None board.cells places.cells)
     (reserve-whole rules.stacked rules.reserve board.reserve places.reserve)

@@ -32,9 +32,11 @@ pub fn keys_compare_as_boards_do()
         → (pointwise nat_eq (key_bytes rules a) (key_bytes rules b) ≡ true) ↔ Same rules a b }
 {}
 
-/// The test of a board passes exactly where the board belongs to the rules. So no step is one that cannot be taken back.
+/// The test of a board passes exactly where the board belongs to the rules. So no step is one that cannot be taken
+/// back.
 pub fn well_boards_belong()
-    ensures { (rules : RuleParts) (board : Board) → IsPlayable rules → (is_well rules board ≡ true) ↔ Belongs rules board }
+    ensures { (rules : RuleParts) (board : Board) → IsPlayable rules → (is_well rules board ≡ true)
+        ↔ Belongs rules board }
 {}
 
 /// Each step of a restricted search can be made, and is a line of its single moves.

@@ -55,7 +55,8 @@ pub(crate) fn push_single(last: Move, out: &mut Vec<Step>) -> Result<(), NoMemor
 
 /// Appends moves as steps of their own: all of them, or the carries from other places than the waste alone.
 fn push_singles(moves: &[Move], all: bool, out: &mut Vec<Step>) -> Result<(), NoMemory>
-    ensures ok { OnOk result (out.new.items ≡ out.old.items ++ steps_from 0 (filter (λ m. all || is_from_elsewhere m) moves.now)) }
+    ensures ok { OnOk result (out.new.items ≡ out.old.items ++ steps_from 0
+        (filter (λ m. all || is_from_elsewhere m) moves.now)) }
     ensures begun { OnErr result (take (length out.old.items) out.new.items ≡ out.old.items) }
 {
     for m in moves {

@@ -1,5 +1,6 @@
 -- What a deck in order holds.
-use Rattle.std.proofs.Common.{◌≡◌, ℕ, ◌+◌, ◌*◌, ◌<◌, ◌≤◌, zero, suc, Bool, true, false, ◌&&◌, List, [], ◌∷◌, ◌++◌, map, length, refl, ap, sym, ◌∙◌, arith, inl, inr, mul-le-mul_left}
+use Rattle.std.proofs.Common.{◌≡◌, ℕ, ◌+◌, ◌*◌, ◌<◌, ◌≤◌, zero, suc, Bool, true, false, ◌&&◌, List, [], ◌∷◌, ◌++◌, map}
+use Rattle.std.proofs.Common.{length, refl, ap, sym, ◌∙◌, arith, inl, inr, mul-le-mul_left}
 use Rattle.std.specs.Prelude.{◌==◌, nat_le, cond}
 use Rattle.std.specs.List.{sum_by, count_by, flat_map, range_with_len}
 use Rattle.std.proofs.lemmas.List.Sums.{sum_by-append, sum_by-cons, sum_by_push}
@@ -20,7 +21,8 @@ use Rattle.game_rules.proofs.PositionLoops.{range-more}
 use Rattle.seed_deal.specs.Shuffle.{suit_in_order, one_deck, deck_in_order}
 
 -- sums over decks, and over the suits of a deck
-pub sum-decks : (f : Card → ℕ) (m a n : ℕ) → sum_by f (flat_map (λ copy. one_deck m) (range_with_len a n)) ≡ n * sum_by f (one_deck m)
+pub sum-decks : (f : Card → ℕ) (m a n : ℕ)
+    → sum_by f (flat_map (λ copy. one_deck m) (range_with_len a n)) ≡ n * sum_by f (one_deck m)
 sum-decks f m a zero = let none : 0 * sum_by f (one_deck m) ≡ 0 = omega arith in sym none
 sum-decks f m a (suc n) =
     let cut = sum_by-append f (one_deck m) (flat_map (λ copy. one_deck m) (range_with_len (a + 1) n)) in
@@ -29,7 +31,8 @@ sum-decks f m a (suc n) =
     omega (arith, cut, rest, product)
 
 pub sum-suits : (f : Card → ℕ) (m : ℕ) → sum_by f (one_deck m)
-    ≡ sum_by f (suit_in_order m Clubs) + sum_by f (suit_in_order m Diamonds) + sum_by f (suit_in_order m Hearts) + sum_by f (suit_in_order m Spades)
+    ≡ sum_by f (suit_in_order m Clubs) + sum_by f (suit_in_order m Diamonds) + sum_by f
+    (suit_in_order m Hearts) + sum_by f (suit_in_order m Spades)
 sum-suits f m =
     let last : List Card = suit_in_order m Spades ++ [] in
     let three : List Card = suit_in_order m Hearts ++ last in
@@ -45,7 +48,8 @@ sum-suits f m =
 -- a sum over a suit is a sum over its places
 sum-mapped : {A B : Type 0} (g : B → ℕ) (h : A → B) (xs : List A) → sum_by g (map h xs) ≡ sum_by (λ x. g (h x)) xs
 sum-mapped g h [] = refl
-sum-mapped g h (x ∷ xs) = omega (arith, sum_by-cons g (h x) (map h xs), sum_by-cons (λ y. g (h y)) x xs, sum-mapped g h xs)
+sum-mapped g h (x ∷ xs) = omega
+    (arith, sum_by-cons g (h x) (map h xs), sum_by-cons (λ y. g (h y)) x xs, sum-mapped g h xs)
 
 sum-constant : {A : Type 0} (n : ℕ) (xs : List A) → sum_by (λ x. n) xs ≡ n * length xs
 sum-constant n [] = let none : n * 0 ≡ 0 = omega arith in sym none
@@ -76,9 +80,11 @@ ranks-once r zero =
 ranks-once r (suc m) =
     let f : ℕ → ℕ = λ (p : ℕ). once (r == p + 1) in
     let one : suc m ≡ m + 1 = omega arith in
-    let more : sum_by f (range_with_len 0 (m + 1)) ≡ sum_by f (range_with_len 0 m) + once (r == m + 1) = ap (sum_by f) (range-more m) ∙ sum_by_push f (range_with_len 0 m) m in
+    let more : sum_by f (range_with_len 0 (m + 1)) ≡ sum_by f (range_with_len 0 m) + once (r == m + 1) = ap (sum_by f)
+    (range-more m) ∙ sum_by_push f (range_with_len 0 m) m in
     let below = ranks-once r m in
-    let whole : sum_by f (range_with_len 0 (suc m)) ≡ sum_by f (range_with_len 0 (m + 1)) = ap (λ (k : ℕ). sum_by f (range_with_len 0 k)) one in
+    let whole : sum_by f (range_with_len 0 (suc m)) ≡ sum_by f (range_with_len 0 (m + 1)) =
+    ap (λ (k : ℕ). sum_by f (range_with_len 0 k)) one in
     let last : once (in_range r (suc m)) ≡ once (in_range r (m + 1)) = ap (λ (k : ℕ). once (in_range r k)) one in
     elim (cases_order r (m + 1)) [
       | inl same ↦
@@ -109,18 +115,22 @@ ranks-once r (suc m) =
     ]
 
 -- how often a card stands in a suit and in a deck
-in_this_suit : (b : Bool) (r m : ℕ) → sum_by (λ p. once (b && (r == p + 1))) (range_with_len 0 m) ≡ cond b (once (in_range r m)) 0
+in_this_suit : (b : Bool) (r m : ℕ) → sum_by (λ p. once (b && (r == p + 1))) (range_with_len 0 m) ≡ cond b
+    (once (in_range r m)) 0
 in_this_suit true r m = ranks-once r m
 in_this_suit false r m =
     let none : 0 * length (range_with_len 0 m) ≡ 0 = omega arith in
     sum-constant 0 (range_with_len 0 m) ∙ none
 
-suit-copies : (card : Card) (suit : Suit) (m : ℕ) → copies_of card (suit_in_order m suit) ≡ cond (same_suit card.suit suit) (once (in_range card.rank m)) 0
+suit-copies : (card : Card) (suit : Suit) (m : ℕ)
+    → copies_of card (suit_in_order m suit) ≡ cond (same_suit card.suit suit) (once (in_range card.rank m)) 0
 suit-copies card suit m =
     let of_place : ℕ → Card = λ (p : ℕ). record { suit = suit; rank = p + 1 } in
-    sum-mapped (λ (c : Card). once (same_card card c)) of_place (range_with_len 0 m) ∙ in_this_suit (same_suit card.suit suit) card.rank m
+    sum-mapped (λ (c : Card). once (same_card card c)) of_place (range_with_len 0 m)
+    ∙ in_this_suit (same_suit card.suit suit) card.rank m
 
-one_of_four : (s : Suit) (n : ℕ) → cond (same_suit s Clubs) n 0 + cond (same_suit s Diamonds) n 0 + cond (same_suit s Hearts) n 0 + cond (same_suit s Spades) n 0 ≡ n
+one_of_four : (s : Suit) (n : ℕ) → cond (same_suit s Clubs) n 0 + cond (same_suit s Diamonds) n 0 + cond
+    (same_suit s Hearts) n 0 + cond (same_suit s Spades) n 0 ≡ n
 one_of_four Clubs n = omega arith
 one_of_four Diamonds n = omega arith
 one_of_four Hearts n = omega arith
@@ -128,7 +138,16 @@ one_of_four Spades n = omega arith
 
 deck-copies : (card : Card) (m : ℕ) → copies_of card (one_deck m) ≡ once (in_range card.rank m)
 deck-copies card m =
-    omega (arith, sum-suits (λ (c : Card). once (same_card card c)) m, suit-copies card Clubs m, suit-copies card Diamonds m, suit-copies card Hearts m, suit-copies card Spades m, one_of_four card.suit (once (in_range card.rank m)))
+    omega (
+      arith,
+      sum-suits (λ (c : Card). once (same_card card c)) m,
+      suit-copies card Clubs m,
+      suit-copies card Diamonds
+          m,
+      suit-copies card Hearts m,
+      suit-copies card Spades m,
+      one_of_four card.suit (once (in_range card.rank m)),
+    )
 
 -- how many cards of a rank stand in a suit and in a deck
 eqb-turned : (a b : ℕ) → (a == b) ≡ (b == a)
@@ -138,26 +157,42 @@ suit-rank : (b : ℕ) (suit : Suit) (m : ℕ) → count_by (λ c. c.rank == b) (
 suit-rank b suit m =
     let of_place : ℕ → Card = λ (p : ℕ). record { suit = suit; rank = p + 1 } in
     sum-mapped (λ (c : Card). once (c.rank == b)) of_place (range_with_len 0 m)
-    ∙ sum_by-same (λ (p : ℕ). once (p + 1 == b)) (λ (p : ℕ). once (b == p + 1)) (range_with_len 0 m) (λ p. ap once (eqb-turned (p + 1) b))
+    ∙ sum_by-same (λ (p : ℕ). once (p + 1 == b)) (λ (p : ℕ). once (b == p + 1)) (range_with_len 0 m)
+    (λ p. ap once (eqb-turned (p + 1) b))
     ∙ ranks-once b m
 
 deck-rank : (b m : ℕ) → count_by (λ c. c.rank == b) (one_deck m) ≡ 4 * once (in_range b m)
 deck-rank b m =
-    omega (arith, sum-suits (λ (c : Card). once (c.rank == b)) m, suit-rank b Clubs m, suit-rank b Diamonds m, suit-rank b Hearts m, suit-rank b Spades m)
+    omega (
+      arith,
+      sum-suits (λ (c : Card). once (c.rank == b)) m,
+      suit-rank b Clubs m,
+      suit-rank b Diamonds m,
+      suit-rank b Hearts m,
+      suit-rank b Spades m,
+    )
 
 -- how long a deck is
 pub ones : {A : Type 0} (xs : List A) → sum_by (λ x. 1) xs ≡ length xs
 ones xs = let product : 1 * length xs ≡ length xs = omega arith in sum-constant 1 xs ∙ product
 
 length-suit : (suit : Suit) (m : ℕ) → length (suit_in_order m suit) ≡ m
-length-suit suit m = length-map-range_with_len (λ (p : ℕ). let card : Card = record { suit = suit; rank = p + 1 } in card) 0 m
+length-suit suit m = length-map-range_with_len
+    (λ (p : ℕ). let card : Card = record { suit = suit; rank = p + 1 } in card) 0 m
 
 suit-ones : (suit : Suit) (m : ℕ) → sum_by (λ x. 1) (suit_in_order m suit) ≡ m
 suit-ones suit m = ones (suit_in_order m suit) ∙ length-suit suit m
 
 deck-ones : (m : ℕ) → sum_by (λ x. 1) (one_deck m) ≡ 4 * m
 deck-ones m =
-    omega (arith, sum-suits (λ (c : Card). 1) m, suit-ones Clubs m, suit-ones Diamonds m, suit-ones Hearts m, suit-ones Spades m)
+    omega (
+      arith,
+      sum-suits (λ (c : Card). 1) m,
+      suit-ones Clubs m,
+      suit-ones Diamonds m,
+      suit-ones Hearts m,
+      suit-ones Spades m,
+    )
 
 -- the cards of all decks of the game, in any order
 pub record IsDeck (rules : RuleParts) (deck : List Card) : Type 0 where
@@ -165,19 +200,22 @@ pub record IsDeck (rules : RuleParts) (deck : List Card) : Type 0 where
   pub ranks : (b : ℕ) → count_by (λ c. c.rank == b) deck ≡ rules.decks * (4 * once (in_range b rules.max_rank))
   pub long : length deck ≡ rules.decks * (4 * rules.max_rank)
 
-pub IsDeck-shuffled : (rules : RuleParts) (deck : List Card) → IsPermutation (deck_in_order rules) deck → IsDeck rules deck
+pub IsDeck-shuffled : (rules : RuleParts) (deck : List Card) → IsPermutation (deck_in_order rules) deck
+    → IsDeck rules deck
 IsDeck-shuffled rules deck exchanged =
     let m : ℕ = rules.max_rank in
     let all : (f : Card → ℕ) → sum_by f deck ≡ rules.decks * sum_by f (one_deck m) =
     λ (f : Card → ℕ). sum_by-IsPermutation f (deck_in_order rules) deck exchanged ∙ sum-decks f m 0 rules.decks in
     record {
-      copies = λ card. all (λ (c : Card). once (same_card card c)) ∙ ap (λ (n : ℕ). rules.decks * n) (deck-copies card m);
+      copies = λ card. all (λ (c : Card). once (same_card card c)) ∙ ap (λ (n : ℕ). rules.decks * n)
+          (deck-copies card m);
       ranks = λ b. all (λ (c : Card). once (c.rank == b)) ∙ ap (λ (n : ℕ). rules.decks * n) (deck-rank b m);
       long = sym (ones deck) ∙ all (λ (c : Card). 1) ∙ ap (λ (n : ℕ). rules.decks * n) (deck-ones m);
     }
 
 pub length-in_order : (rules : RuleParts) → length (deck_in_order rules) ≡ rules.decks * (4 * rules.max_rank)
-length-in_order rules = sym (ones (deck_in_order rules)) ∙ sum-decks (λ (c : Card). 1) rules.max_rank 0 rules.decks ∙ ap (λ (n : ℕ). rules.decks * n) (deck-ones rules.max_rank)
+length-in_order rules = sym (ones (deck_in_order rules)) ∙ sum-decks (λ (c : Card). 1) rules.max_rank 0 rules.decks
+    ∙ ap (λ (n : ℕ). rules.decks * n) (deck-ones rules.max_rank)
 
 pub few-in_order : (rules : RuleParts) → HasLimits rules → length (deck_in_order rules) ≤ 104
 few-in_order rules limits =

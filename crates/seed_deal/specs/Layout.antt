@@ -1,6 +1,7 @@
 -- How a shuffled deck is laid out, in seven steps. Cards are taken from the front of the deck, and the
 -- first card that is laid on a list lies at its bottom.
-use Rattle.std.specs.Prelude.{ℕ, ◌-◌, ◌%◌, ◌==◌, not, List, [], ◌∷◌, ◌++◌, map, length, take, drop, replicate, Option, Some, None, slice_index_or, slice_set, if◌then◌else◌}
+use Rattle.std.specs.Prelude.{ℕ, ◌-◌, ◌%◌, ◌==◌, not, List, [], ◌∷◌, ◌++◌, map, length, take, drop, replicate, Option}
+use Rattle.std.specs.Prelude.{Some, None, slice_index_or, slice_set, if◌then◌else◌}
 use Rattle.std.specs.List.{filter, flat_map, range_with_len}
 use Rattle.card_piles.specs.declared.Card.{Card}
 use Rattle.game_rules.specs.declared.RuleParts.{RuleParts}
@@ -57,7 +58,8 @@ after_hole rules deck = beside_hole rules.goal (after_foundations rules deck)
 
 -- the cells after the deal
 abbrev pub dealt_cells : RuleParts → List Card → List (Option Card)
-dealt_cells rules deck = filled rules.cells None (map (λ card. Some card) (take rules.cells_filled (after_hole rules deck)))
+dealt_cells rules deck = filled rules.cells None
+    (map (λ card. Some card) (take rules.cells_filled (after_hole rules deck)))
 
 -- the cards after step 3
 abbrev pub after_cells : RuleParts → List Card → List Card

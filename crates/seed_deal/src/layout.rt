@@ -1,10 +1,12 @@
 //! A shuffled deck laid out, in the first five steps here and the last two in `piles`.
-ghost use Rattle.std.specs.Prelude.{◌≡◌, ◌≤◌, ◌<◌, ◌+◌, ◌++◌, Some, None, map, length, take, drop, replicate, false, IfOk, OnOk, IfSome, IfNone};
+ghost use Rattle.std.specs.Prelude.{◌≡◌, ◌≤◌, ◌<◌, ◌+◌, ◌++◌, Some, None, map, length, take, drop, replicate, false};
+ghost use Rattle.std.specs.Prelude.{IfOk, OnOk, IfSome, IfNone};
 ghost use Rattle.std.specs.List.{range_with_len};
 ghost use Rattle.game_rules.specs.Position.{filled, parts_of, row_count};
 ghost use Rattle.game_rules.specs.Rules.{is_sequence_goal};
 ghost use Rattle.game_rules.specs.Winning.{row_at};
-ghost use Rattle.seed_deal.specs.Layout.{after_foundations, beside_hole, board_of_deck, dealt_heights, dealt_hole, laid_in_rows, laid_out, slot_for, without_first};
+ghost use Rattle.seed_deal.specs.Layout.{after_foundations, beside_hole, board_of_deck, dealt_heights, dealt_hole};
+ghost use Rattle.seed_deal.specs.Layout.{laid_in_rows, laid_out, slot_for, without_first};
 
 use crate::piles::{face_down_of, piles_laid};
 use card_piles::Card;
@@ -48,7 +50,8 @@ fn dealt_heights(alloc: Global, rules: &Rules) -> Result<Items<u8>, AllocError>
 
 /// The place of the first card that is this one.
 fn first_place(cards: &[Card], card: Card) -> Option<usize>
-    ensures found { IfSome result (λ at. (at < length cards.now) × (without_first card cards.now ≡ take at cards.now ++ drop (at + 1) cards.now)) }
+    ensures found { IfSome result (λ at. (at < length cards.now)
+        × (without_first card cards.now ≡ take at cards.now ++ drop (at + 1) cards.now)) }
     ensures none { IfNone result (without_first card cards.now ≡ cards.now) }
 {
     for (at, next) in cards.iter().enumerate() {
@@ -167,7 +170,8 @@ fn rows_of(
     rules: &Rules,
     deck: &[Card],
 ) -> Result<Items<Items<Option<Card>>>, AllocError>
-    ensures { IfOk result (λ rows. rows ≡ map (row_at rules.now (laid_in_rows rules.now deck.now)) (range_with_len 0 (row_count rules.now))) }
+    ensures { IfOk result (λ rows. rows ≡ map (row_at rules.now (laid_in_rows rules.now deck.now))
+        (range_with_len 0 (row_count rules.now))) }
 {
     let slots = slots_for(alloc, deck)?;
     let mut rows = Items::new(alloc);

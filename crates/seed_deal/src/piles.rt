@@ -1,5 +1,6 @@
 //! The last two steps of a layout: the cards that go to the piles.
-ghost use Rattle.std.specs.Prelude.{◌≡◌, ◌≤◌, ◌<◌, ◌-◌, ◌∷◌, ◌++◌, List, map, length, drop, replicate, [], IfOk, OnOk, slice_set, slice_index_or};
+ghost use Rattle.std.specs.Prelude.{◌≡◌, ◌≤◌, ◌<◌, ◌-◌, ◌∷◌, ◌++◌, List, map, length, drop, replicate, [], IfOk, OnOk};
+ghost use Rattle.std.specs.Prelude.{slice_set, slice_index_or};
 ghost use Rattle.std.specs.List.{sum_by};
 ghost use Rattle.seed_deal.specs.Layout.{all_laid, laid_on, piles_laid, round_order, triangle_order, turned};
 
@@ -21,7 +22,8 @@ fn no_cards(alloc: Global, piles: u8) -> Result<Vec<Items<Card>>, AllocError>
 /// Lays a card on a pile.
 fn lay_on(tableau: &mut Vec<Items<Card>>, pile: usize, card: Card) -> Result<(), AllocError>
     requires { pile < length tableau.old.items }
-    ensures laid { OnOk result (tableau.new.items ≡ slice_set tableau.old.items pile (slice_index_or tableau.old.items pile [] ++ card ∷ [])) }
+    ensures laid { OnOk result (tableau.new.items ≡ slice_set tableau.old.items pile
+        (slice_index_or tableau.old.items pile [] ++ card ∷ [])) }
 {
     tableau[pile].push(card)?;
     Ok(())
@@ -34,7 +36,8 @@ fn lay_rows<'a>(
     cards: &'a [Card],
 ) -> Result<&'a [Card], AllocError>
     requires { length tableau.old.items ≡ piles }
-    ensures laid { OnOk result (tableau.new.items ≡ laid_on (triangle_order Layout.Triangle piles) cards.now tableau.old.items) }
+    ensures laid { OnOk result (tableau.new.items ≡ laid_on
+        (triangle_order Layout.Triangle piles) cards.now tableau.old.items) }
     ensures all { OnOk result (length tableau.new.items ≡ piles) }
     ensures rest { IfOk result (λ rest. rest.now ≡ drop (length (triangle_order Layout.Triangle piles)) cards.now) }
 {
@@ -55,7 +58,8 @@ fn lay_rows<'a>(
 fn lay_in_turn(tableau: &mut Vec<Items<Card>>, piles: u8, cards: &[Card]) -> Result<(), AllocError>
     requires some { 0 < piles }
     requires all { length tableau.old.items ≡ piles }
-    ensures { OnOk result (tableau.new.items ≡ laid_on (round_order piles (length cards.now)) cards.now tableau.old.items) }
+    ensures { OnOk result (tableau.new.items ≡ laid_on
+        (round_order piles (length cards.now)) cards.now tableau.old.items) }
 {
     for (k, card) in cards.iter().enumerate() {
         lay_on(tableau, k % usize::from(piles), *card)?;

@@ -31,9 +31,12 @@ no_line_wins rules start moves last never line won =
 
 -- the line of a verdict wins
 pub line_wins : (rules : RuleParts) (start : Board) (limits : Limits) (line : List Move) (nodes narrow_nodes : ℕ)
-    → IsVerdict rules start limits (verdict.Winnable line nodes narrow_nodes) → (end : Board) × Line rules start line end × Won rules end
-line_wins rules start limits line nodes narrow_nodes (inl plain) = (after_steps rules start plain.finds.trail, plain.finds.legal, plain.finds.won)
-line_wins rules start limits line nodes narrow_nodes (inr narrow) = (after_steps rules start narrow.finds.trail, narrow.finds.legal, narrow.finds.won)
+    → IsVerdict rules start limits (verdict.Winnable line nodes narrow_nodes)
+    → (end : Board) × Line rules start line end × Won rules end
+line_wins rules start limits line nodes narrow_nodes (inl plain) =
+    (after_steps rules start plain.finds.trail, plain.finds.legal, plain.finds.won)
+line_wins rules start limits line nodes narrow_nodes (inr narrow) =
+    (after_steps rules start narrow.finds.trail, narrow.finds.legal, narrow.finds.won)
 
 -- no step stands twice
 plain_steps : (rules : RuleParts) (start : Board) → HasPlainSteps (plain_game rules) start
@@ -43,10 +46,12 @@ plain_steps rules start = λ p is_trail. steps-apart rules (end (plain_game rule
 -- follows that is not won
 abbrev Ends : RuleParts → Board → ℕ → List (List Step) → Verdict → Type 0
 Ends rules start limit walk (verdict.Winnable line nodes narrow_nodes) =
-    (z : List Step) × (line ≡ expand_trail rules start z) × Follows (plain_game rules) start walk z × Won rules (end (plain_game rules) start z)
+    (z : List Step) × (line ≡ expand_trail rules start z) × Follows (plain_game rules) start walk z
+    × Won rules (end (plain_game rules) start z)
 Ends rules start limit walk (verdict.Unwinnable nodes narrow_nodes) = IsClosed (plain_game rules) start walk
 Ends rules start limit walk (verdict.Undecided nodes narrow_nodes) =
-    (length walk ≡ limit) × (z : List Step) × Follows (plain_game rules) start walk z × IsOpen (plain_game rules) start walk z
+    (length walk ≡ limit) × (z : List Step) × Follows (plain_game rules) start walk z
+    × IsOpen (plain_game rules) start walk z
     × (¬ Won rules (end (plain_game rules) start z))
 
 -- what a verdict rests on
@@ -57,11 +62,13 @@ record Rests (rules : RuleParts) (start : Board) (cache limit : ℕ) (v : Verdic
   no_narrow : narrow_nodes_of v ≡ 0
 
 -- without a restricted search no node of one is told
-pub passed_none : (rules : RuleParts) (start : Board) (limits : Limits) (nodes : ℕ) → IsPassed rules start limits nodes → limits.narrow ≡ 0 → nodes ≡ 0
+pub passed_none : (rules : RuleParts) (start : Board) (limits : Limits) (nodes : ℕ) → IsPassed rules start limits nodes
+    → limits.narrow ≡ 0 → nodes ≡ 0
 passed_none rules start limits nodes (inl none) no_narrow = none.1
 passed_none rules start limits nodes (inr some) no_narrow = absurd (some.0 no_narrow)
 
-rests_on : (rules : RuleParts) (start : Board) (limits : Limits) (v : Verdict) → IsVerdict rules start limits v → limits.narrow ≡ 0
+rests_on : (rules : RuleParts) (start : Board) (limits : Limits) (v : Verdict) → IsVerdict rules start limits v
+    → limits.narrow ≡ 0
     → nodes_of v ≤ limits.cache → Rests rules start limits.cache limits.nodes v
 rests_on rules start limits (verdict.Winnable line nodes narrow_nodes) (inl is) none few =
     let h = is.finds in
@@ -96,34 +103,42 @@ rests_on rules start limits (verdict.Undecided nodes narrow_nodes) is none few =
         h.searched.count ∙ e.spent,
         e.further,
         e.follows,
-        open_after (plain_game rules) start (plain_game-is_alike rules) limits.cache h.walk e.further h.searched.is_walk e.follows e.fresh short,
+        open_after (plain_game rules) start (plain_game-is_alike rules) limits.cache h.walk e.further h.searched.is_walk
+            e.follows e.fresh short,
         at_end (plain_game rules) (λ s. ¬ Won rules s) start e.further e.clean.not_won,
       );
       no_narrow = passed_none rules start limits narrow_nodes is.1 none;
     }
 
-ended : (rules : RuleParts) (start : Board) (limit : ℕ) (walk : List (List Step)) (v : Verdict) → Ends rules start limit walk v
+ended : (rules : RuleParts) (start : Board) (limit : ℕ) (walk : List (List Step)) (v : Verdict)
+    → Ends rules start limit walk v
     → IsEnded (plain_game rules) start limit walk
 ended rules start limit walk (verdict.Winnable line nodes narrow_nodes) ends = inl (ends.0, ends.2, ends.3)
 ended rules start limit walk (verdict.Unwinnable nodes narrow_nodes) ends = inr (inl ends)
 ended rules start limit walk (verdict.Undecided nodes narrow_nodes) ends = inr (inr ends.0)
 
 -- one walk ends in one way
-module _ (rules : RuleParts) (start : Board) (limit : ℕ) (walk : List (List Step)) (is_walk : IsWalk (plain_game rules) start walk) where
+module _ (rules : RuleParts) (start : Board) (limit : ℕ) (walk : List (List Step))
+    (is_walk : IsWalk (plain_game rules) start walk) where
   no_further : (z : List Step) → IsClosed (plain_game rules) start walk → Follows (plain_game rules) start walk z
       → IsOpen (plain_game rules) start walk z → ⊥
   no_further z closed follows opens =
       none_after_closed (plain_game rules) start walk is_walk (plain_steps rules start) closed z follows opens
 
-  no_win : (line z : List Step) → Follows (plain_game rules) start walk line → Won rules (end (plain_game rules) start line)
-      → Follows (plain_game rules) start walk z → IsOpen (plain_game rules) start walk z → ¬ Won rules (end (plain_game rules) start z) → ⊥
+  no_win : (line z : List Step) → Follows (plain_game rules) start walk line
+      → Won rules (end (plain_game rules) start line)
+      → Follows (plain_game rules) start walk z → IsOpen (plain_game rules) start walk z
+      → ¬ Won rules (end (plain_game rules) start z) → ⊥
   no_win line z follows won follows' opens not_won =
-      let same : line ≡ z = at_most_one (plain_game rules) start walk is_walk (plain_steps rules start) line z follows follows' (inl won) opens in
+      let same : line ≡ z = at_most_one (plain_game rules) start walk is_walk
+      (plain_steps rules start) line z follows follows' (inl won) opens in
       not_won (subst (λ l. Won rules (end (plain_game rules) start l)) same won)
 
-  one_ending : (v w : Verdict) → Ends rules start limit walk v → Ends rules start limit walk w → nodes_of v ≡ nodes_of w → narrow_nodes_of v ≡ narrow_nodes_of w → v ≡ w
+  one_ending : (v w : Verdict) → Ends rules start limit walk v → Ends rules start limit walk w → nodes_of v ≡ nodes_of w
+      → narrow_nodes_of v ≡ narrow_nodes_of w → v ≡ w
   one_ending (verdict.Winnable line nodes narrow_nodes) (verdict.Winnable line' nodes' narrow_nodes') e f same narrow =
-      let trails : e.0 ≡ f.0 = at_most_one (plain_game rules) start walk is_walk (plain_steps rules start) e.0 f.0 e.2 f.2 (inl e.3) (inl f.3) in
+      let trails : e.0 ≡ f.0 = at_most_one (plain_game rules) start walk is_walk
+      (plain_steps rules start) e.0 f.0 e.2 f.2 (inl e.3) (inl f.3) in
       let one : line ≡ line' = e.1 ∙ (ap (expand_trail rules start) trails ∙ sym f.1) in
       ap (λ l. verdict.Winnable l nodes narrow_nodes) one
       ∙ (ap (λ n. verdict.Winnable line' n narrow_nodes) same ∙ ap (λ k. verdict.Winnable line' nodes' k) narrow)
@@ -145,18 +160,23 @@ module _ (rules : RuleParts) (start : Board) (limit : ℕ) (walk : List (List St
       ap (λ n. verdict.Undecided n narrow_nodes) same ∙ ap (λ k. verdict.Undecided nodes' k) narrow
 
 -- two verdicts of no more nodes than their caches have room for are one
-pub one_verdict : (rules : RuleParts) (start : Board) (limits limits' : Limits) (v w : Verdict) → limits.narrow ≡ 0 → limits'.narrow ≡ 0
+pub one_verdict : (rules : RuleParts) (start : Board) (limits limits' : Limits) (v w : Verdict) → limits.narrow ≡ 0
+    → limits'.narrow ≡ 0
     → limits.nodes ≡ limits'.nodes → IsVerdict rules start limits v → IsVerdict rules start limits' w
     → nodes_of v ≤ limits.cache → nodes_of w ≤ limits'.cache → v ≡ w
 one_verdict rules start limits limits' v w none none' same is_v is_w few_v few_w =
-    let a = subst (λ limit. Rests rules start limits.cache limit v) same (rests_on rules start limits v is_v none few_v) in
+    let a = subst (λ limit. Rests rules start limits.cache limit v) same
+    (rests_on rules start limits v is_v none few_v) in
     let b = rests_on rules start limits' w is_w none' few_w in
     let short : length a.walk ≤ limits.cache = omega (arith, a.searched.count, few_v) in
     let short' : length b.walk ≤ limits'.cache = omega (arith, b.searched.count, few_w) in
     let within : length a.walk ≤ limits'.nodes = omega (arith, a.searched.count, a.searched.within) in
     let within' : length b.walk ≤ limits'.nodes = omega (arith, b.searched.count, b.searched.within) in
-    let walks : a.walk ≡ b.walk = one_walk (plain_game rules) start (plain_game-is_alike rules) (plain_steps rules start) limits'.nodes limits.cache limits'.cache a.walk b.walk
+    let walks : a.walk ≡ b.walk = one_walk (plain_game rules) start (plain_game-is_alike rules)
+    (plain_steps rules start) limits'.nodes limits.cache limits'.cache a.walk b.walk
     a.searched.is_walk b.searched.is_walk a.searched.fresh b.searched.fresh short short' within within'
     (ended rules start limits'.nodes a.walk v a.ends) (ended rules start limits'.nodes b.walk w b.ends) in
     let nodes : nodes_of v ≡ nodes_of w = sym a.searched.count ∙ (ap length walks ∙ b.searched.count) in
-    one_ending rules start limits'.nodes b.walk b.searched.is_walk v w (subst (λ walk. Ends rules start limits'.nodes walk v) walks a.ends) b.ends nodes (a.no_narrow ∙ sym b.no_narrow)
+    one_ending rules start limits'.nodes b.walk b.searched.is_walk v w
+    (subst (λ walk. Ends rules start limits'.nodes walk v) walks a.ends) b.ends nodes
+    (a.no_narrow ∙ sym b.no_narrow)

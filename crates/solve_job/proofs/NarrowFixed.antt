@@ -1,5 +1,6 @@
 -- What follows from verdicts alone of a restricted search: where nothing is forgotten, there is one count of its nodes.
-use Rattle.std.proofs.Common.{◌≡◌, ◌≢◌, ◌∙◌, ℕ, zero, suc, ◌≤◌, List, length, inl, inr, refl, ap, sym, subst, ⊎_elim, arith}
+use Rattle.std.proofs.Common.{◌≡◌, ◌≢◌, ◌∙◌, ℕ, zero, suc, ◌≤◌, List, length, inl, inr, refl, ap, sym, subst}
+use Rattle.std.proofs.Common.{⊎_elim, arith}
 use Rattle.trails.specs.Trails.{end}
 use Rattle.trails.specs.Walks.{IsWalk}
 use Rattle.trails.specs.Fresh.{IsFresh}
@@ -31,10 +32,12 @@ record Restricted (rules : RuleParts) (way : Streamliner) (start : Board) (cache
   ended : IsEnded (narrow_game rules way) start limit walk
 
 -- no step stands twice
-narrow_plain_steps : (rules : RuleParts) (way : Streamliner) (start : Board) → HasPlainSteps (narrow_game rules way) start
+narrow_plain_steps : (rules : RuleParts) (way : Streamliner) (start : Board)
+    → HasPlainSteps (narrow_game rules way) start
 narrow_plain_steps rules way start = λ p is_trail. narrow_steps-once rules way (end (narrow_game rules way) start p)
 
-restricted-won : (rules : RuleParts) (way : Streamliner) (start : Board) (cache limit : ℕ) (line : List Move) (nodes : ℕ)
+restricted-won : (rules : RuleParts) (way : Streamliner) (start : Board) (cache limit : ℕ)
+    (line : List Move) (nodes : ℕ)
     → FindsWin (narrow_game rules way) rules start cache limit line nodes → Restricted rules way start cache limit nodes
 restricted-won rules way start cache limit line nodes h = record {
   walk = h.walk;
@@ -45,7 +48,8 @@ restricted-won rules way start cache limit line nodes h = record {
   ended = inl (
     h.trail,
     h.follows,
-    subst (Won rules) (sym (trail_end rules (narrow_steps rules way) (Won rules) (NarrowSame rules way) start h.trail)) h.won,
+    subst (Won rules)
+        (sym (trail_end rules (narrow_steps rules way) (Won rules) (NarrowSame rules way) start h.trail)) h.won,
   );
 }
 
@@ -60,51 +64,67 @@ restricted-not_won rules way start cache limit nodes h = record {
   ended = inr (⊎_elim (λ closed. inl closed) (λ spent. inr (h.searched.count ∙ spent.spent)) h.ends);
 }
 
-restricted-passed : (rules : RuleParts) (start : Board) (limits : Limits) (nodes : ℕ) → IsPassed rules start limits nodes → limits.narrow ≢ 0
+restricted-passed : (rules : RuleParts) (start : Board) (limits : Limits) (nodes : ℕ)
+    → IsPassed rules start limits nodes → limits.narrow ≢ 0
     → Restricted rules limits.way start limits.cache limits.narrow nodes
 restricted-passed rules start limits nodes (inl none) some = absurd (some none.0)
-restricted-passed rules start limits nodes (inr search) some = restricted-not_won rules limits.way start limits.cache limits.narrow nodes search.1
+restricted-passed rules start limits nodes (inr search) some = restricted-not_won rules limits.way start limits.cache
+    limits.narrow nodes search.1
 
 -- a verdict tells the nodes of that walk
-restricted_by : (rules : RuleParts) (start : Board) (limits : Limits) (v : Verdict) → IsVerdict rules start limits v → limits.narrow ≢ 0
+restricted_by : (rules : RuleParts) (start : Board) (limits : Limits) (v : Verdict) → IsVerdict rules start limits v
+    → limits.narrow ≢ 0
     → Restricted rules limits.way start limits.cache limits.narrow (narrow_nodes_of v)
 restricted_by rules start limits (verdict.Winnable line nodes narrow_nodes) (inl plain) some =
     restricted-passed rules start limits narrow_nodes plain.passed some
 restricted_by rules start limits (verdict.Winnable line nodes narrow_nodes) (inr narrow) some =
     restricted-won rules limits.way start limits.cache limits.narrow line narrow_nodes narrow.finds
-restricted_by rules start limits (verdict.Unwinnable nodes narrow_nodes) is some = restricted-passed rules start limits narrow_nodes is.1 some
-restricted_by rules start limits (verdict.Undecided nodes narrow_nodes) is some = restricted-passed rules start limits narrow_nodes is.1 some
+restricted_by rules start limits (verdict.Unwinnable nodes narrow_nodes) is some = restricted-passed rules start limits
+    narrow_nodes is.1 some
+restricted_by rules start limits (verdict.Undecided nodes narrow_nodes) is some = restricted-passed rules start limits
+    narrow_nodes is.1 some
 
 -- without a restricted search none of its nodes is told
-none_told : (rules : RuleParts) (start : Board) (limits : Limits) (v : Verdict) → IsVerdict rules start limits v → limits.narrow ≡ 0
+none_told : (rules : RuleParts) (start : Board) (limits : Limits) (v : Verdict) → IsVerdict rules start limits v
+    → limits.narrow ≡ 0
     → narrow_nodes_of v ≡ 0
-none_told rules start limits (verdict.Winnable line nodes narrow_nodes) (inl plain) none = passed_none rules start limits narrow_nodes plain.passed none
-none_told rules start limits (verdict.Winnable line nodes narrow_nodes) (inr narrow) none = absurd (narrow.restricted none)
-none_told rules start limits (verdict.Unwinnable nodes narrow_nodes) is none = passed_none rules start limits narrow_nodes is.1 none
-none_told rules start limits (verdict.Undecided nodes narrow_nodes) is none = passed_none rules start limits narrow_nodes is.1 none
+none_told rules start limits (verdict.Winnable line nodes narrow_nodes) (inl plain) none =
+    passed_none rules start limits narrow_nodes plain.passed none
+none_told rules start limits (verdict.Winnable line nodes narrow_nodes) (inr narrow) none = absurd
+    (narrow.restricted none)
+none_told rules start limits (verdict.Unwinnable nodes narrow_nodes) is none =
+    passed_none rules start limits narrow_nodes is.1 none
+none_told rules start limits (verdict.Undecided nodes narrow_nodes) is none =
+    passed_none rules start limits narrow_nodes is.1 none
 
 -- two walks of restricted searches that forgot nothing have one length
 one_length : (rules : RuleParts) (way : Streamliner) (start : Board) (cache cache' limit nodes nodes' : ℕ)
-    → Restricted rules way start cache limit nodes → Restricted rules way start cache' limit nodes' → nodes ≤ cache → nodes' ≤ cache' → nodes ≡ nodes'
+    → Restricted rules way start cache limit nodes → Restricted rules way start cache' limit nodes' → nodes ≤ cache
+    → nodes' ≤ cache' → nodes ≡ nodes'
 one_length rules way start cache cache' limit nodes nodes' a b few few' =
     let short : length a.walk ≤ cache = omega (arith, a.count, few) in
     let short' : length b.walk ≤ cache' = omega (arith, b.count, few') in
-    let walks : a.walk ≡ b.walk = one_walk (narrow_game rules way) start (narrow_game-is_alike rules way) (narrow_plain_steps rules way start) limit cache cache'
+    let walks : a.walk ≡ b.walk = one_walk (narrow_game rules way) start (narrow_game-is_alike rules way)
+    (narrow_plain_steps rules way start) limit cache cache'
     a.walk b.walk a.is_walk b.is_walk a.fresh b.fresh short short' a.within b.within a.ended b.ended in
     sym a.count ∙ (ap length walks ∙ b.count)
 
 -- two verdicts whose restricted searches forgot nothing tell one count
-pub one_count : (rules : RuleParts) (start : Board) (limits limits' : Limits) (v w : Verdict) → limits.narrow ≡ limits'.narrow → limits.way ≡ limits'.way
+pub one_count : (rules : RuleParts) (start : Board) (limits limits' : Limits) (v w : Verdict)
+    → limits.narrow ≡ limits'.narrow → limits.way ≡ limits'.way
     → IsVerdict rules start limits v → IsVerdict rules start limits' w
     → narrow_nodes_of v ≤ limits.cache → narrow_nodes_of w ≤ limits'.cache → narrow_nodes_of v ≡ narrow_nodes_of w
 one_count rules start limits limits' v w same same_way is_v is_w few few' = by_narrow limits'.narrow refl
   where
     by_narrow : (n : ℕ) → limits'.narrow ≡ n → narrow_nodes_of v ≡ narrow_nodes_of w
-    by_narrow zero none = none_told rules start limits v is_v (same ∙ none) ∙ sym (none_told rules start limits' w is_w none)
+    by_narrow zero none = none_told rules start limits v is_v (same ∙ none)
+        ∙ sym (none_told rules start limits' w is_w none)
     by_narrow (suc n) some =
         let asked' : limits'.narrow ≢ 0 = λ none. absurd (omega (arith, some, none)) in
         let asked : limits.narrow ≢ 0 = λ none. asked' (sym same ∙ none) in
         let a = subst (λ limit. Restricted rules limits'.way start limits.cache limit (narrow_nodes_of v)) same
-        (subst (λ way. Restricted rules way start limits.cache limits.narrow (narrow_nodes_of v)) same_way (restricted_by rules start limits v is_v asked)) in
-        one_length rules limits'.way start limits.cache limits'.cache limits'.narrow (narrow_nodes_of v) (narrow_nodes_of w)
+        (subst (λ way. Restricted rules way start limits.cache limits.narrow (narrow_nodes_of v)) same_way
+        (restricted_by rules start limits v is_v asked)) in
+        one_length rules limits'.way start limits.cache limits'.cache limits'.narrow (narrow_nodes_of v)
+        (narrow_nodes_of w)
         a (restricted_by rules start limits' w is_w asked') few few'

@@ -1,5 +1,5 @@
--- What a verdict says of a start. Boards count up to the order of like places, as `plain_game` says, and in a restricted
--- search as `narrow_game` says.
+-- What a verdict says of a start. Boards count up to the order of like places, as `plain_game` says, and in a
+-- restricted search as `narrow_game` says.
 use Rattle.std.specs.Prelude.{◌≡◌, ◌≢◌, ◌⊎◌, ℕ, ◌≤◌, ◌<◌, List, [], ◌∷◌, ◌++◌, length, min, ⊤}
 use Rattle.trails.specs.Game.{Game}
 use Rattle.trails.specs.Trails.{IsClean}
@@ -19,14 +19,16 @@ use Rattle.solve_job.specs.declared.limits.Limits.{Limits}
 
 -- The boards that were expanded are the ends of a walk of so many trails, no more than the limit. The walk
 -- comes to a board again, or to one that counts as the same, only if at least `cache` others were touched since.
-pub record IsSearched (game : Game Board Step) (start : Board) (cache limit nodes : ℕ) (walk : List (List Step)) : Type 0 where
+pub record IsSearched (game : Game Board Step) (start : Board) (cache limit nodes : ℕ)
+    (walk : List (List Step)) : Type 0 where
   pub is_walk : IsWalk game start walk
   pub fresh : IsFresh game cache start walk
   pub count : length walk ≡ nodes
   pub within : nodes ≤ limit
 
 -- A trail of the game follows the walk. The line is its single moves, each of them legal, and its last board is won.
-pub record FindsWin (game : Game Board Step) (rules : RuleParts) (start : Board) (cache limit : ℕ) (line : List Move) (nodes : ℕ) : Type 0 where
+pub record FindsWin (game : Game Board Step) (rules : RuleParts) (start : Board) (cache limit : ℕ) (line : List Move)
+    (nodes : ℕ) : Type 0 where
   pub trail : List Step
   pub expands : line ≡ expand_trail rules start trail
   pub legal : Line rules start line (after_steps rules start trail)
@@ -36,7 +38,8 @@ pub record FindsWin (game : Game Board Step) (rules : RuleParts) (start : Board)
   pub follows : Follows game start walk trail
 
 -- All nodes were spent, and a further clean trail follows the walk: one more board was met that is not won.
-pub record IsSpent (game : Game Board Step) (start : Board) (cache limit nodes : ℕ) (walk : List (List Step)) : Type 0 where
+pub record IsSpent (game : Game Board Step) (start : Board) (cache limit nodes : ℕ)
+    (walk : List (List Step)) : Type 0 where
   pub spent : nodes ≡ limit
   pub further : List Step
   pub clean : IsClean game start further
@@ -71,13 +74,15 @@ IsPassed rules start limits narrow_nodes =
     ⊎ ((limits.narrow ≢ 0) × FindsNoWin (narrow_game rules limits.way) start limits.cache limits.narrow narrow_nodes)
 
 -- The restricted search found the line, and the plain one was not begun.
-pub record IsNarrowWin (rules : RuleParts) (start : Board) (limits : Limits) (line : List Move) (nodes narrow_nodes : ℕ) : Type 0 where
+pub record IsNarrowWin (rules : RuleParts) (start : Board) (limits : Limits) (line : List Move)
+    (nodes narrow_nodes : ℕ) : Type 0 where
   pub restricted : limits.narrow ≢ 0
   pub no_node : nodes ≡ 0
   pub finds : FindsWin (narrow_game rules limits.way) rules start limits.cache limits.narrow line narrow_nodes
 
 -- The plain search found the line, with a node at least where a restricted search came first.
-pub record IsPlainWin (rules : RuleParts) (start : Board) (limits : Limits) (line : List Move) (nodes narrow_nodes : ℕ) : Type 0 where
+pub record IsPlainWin (rules : RuleParts) (start : Board) (limits : Limits) (line : List Move)
+    (nodes narrow_nodes : ℕ) : Type 0 where
   pub passed : IsPassed rules start limits narrow_nodes
   pub some_node : limits.narrow ≢ 0 → 1 ≤ nodes
   pub finds : FindsWin (plain_game rules) rules start limits.cache limits.nodes line nodes

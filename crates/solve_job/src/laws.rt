@@ -31,8 +31,9 @@ pub fn undecided_means_that_all_nodes_are_spent()
         → nodes ≡ limits.nodes }
 {}
 
-/// Where no restricted search comes first and no more nodes were spent than the cache has room for, the rules, the start
-/// and the limit fix the verdict with its line and its nodes: each cache that is large enough leads to the same one.
+/// Where no restricted search comes first and no more nodes were spent than the cache has room for, the rules, the
+/// start and the limit fix the verdict with its line and its nodes: each cache that is large enough leads to the same
+/// one.
 pub fn verdicts_within_the_cache_are_fixed()
     ensures { (rules : RuleParts) (start : Board) (limits limits' : Limits) (one other : Verdict)
         → limits.narrow ≡ 0 → limits'.narrow ≡ 0 → limits.nodes ≡ limits'.nodes
@@ -41,8 +42,8 @@ pub fn verdicts_within_the_cache_are_fixed()
         → one ≡ other }
 {}
 
-/// Where the restricted search spent no more nodes than the cache has room for, the rules, the start, how many nodes it may
-/// spend and how it is restricted fix how many it spent: each cache that is large enough leads to the same count.
+/// Where the restricted search spent no more nodes than the cache has room for, the rules, the start, how many nodes it
+/// may spend and how it is restricted fix how many it spent: each cache that is large enough leads to the same count.
 pub fn narrow_nodes_within_the_cache_are_fixed()
     ensures { (rules : RuleParts) (start : Board) (limits limits' : Limits) (one other : Verdict)
         → limits.narrow ≡ limits'.narrow → limits.way ≡ limits'.way

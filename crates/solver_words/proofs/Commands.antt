@@ -10,7 +10,8 @@ use Rattle.solver_words.specs.Jobs.{job_of}
 not_equal : (a b : List ℕ) → (a ≡ b → ⊥) → bytes_eq a b ≡ false
 not_equal a b differ =
     let by_test : (t : Bool) → bytes_eq a b ≡ t → t ≡ false =
-    λ t. elim t as (λ t. bytes_eq a b ≡ t → t ≡ false) [ true ↦ λ p. absurd (differ ((bytes_eq-Decides a b).0 p)) | false ↦ λ p. refl ] in
+    λ t. elim t as (λ t. bytes_eq a b ≡ t → t ≡ false)
+    [ true ↦ λ p. absurd (differ ((bytes_eq-Decides a b).0 p)) | false ↦ λ p. refl ] in
     by_test (bytes_eq a b) refl
 
 pub unknown_command : (words rest : List (String Global)) (command : String Global) (text : List ℕ)

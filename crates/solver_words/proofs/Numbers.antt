@@ -1,5 +1,6 @@
 -- The number of a text is the one whose decimal text it is: digits, with no sign and no leading zero.
-use Rattle.std.proofs.Common.{◌≡◌, ◌<◌, ◌^◌, ◌&&◌, ℕ, List, Bool, true, false, cond, nat_lt, decimal, Some, None, refl, ap, sym, ◌∙◌, get_or, zero, suc, [], ◌∷◌, arith}
+use Rattle.std.proofs.Common.{◌≡◌, ◌<◌, ◌^◌, ◌&&◌, ℕ, List, Bool, true, false, cond, nat_lt, decimal, Some, None, refl}
+use Rattle.std.proofs.Common.{ap, sym, ◌∙◌, get_or, zero, suc, [], ◌∷◌, arith}
 use Rattle.std.specs.Str.{bytes_eq}
 use Rattle.std.specs.Str.Parse.{digits_value}
 use Rattle.std.proofs.lemmas.Bool.{lt-ltb, ltb-true}
@@ -21,11 +22,16 @@ pub number_none : (text : List ℕ) → ((n : ℕ) → n < 2 ^ 64 → text ≡ d
 unfolding number_of
 number_none text other =
     let v = digits_value 10 text in
-    let by_tests : (a b : Bool) → nat_lt v (2 ^ 64) ≡ a → bytes_eq (decimal v) text ≡ b → cond (a && b) (Some v) None ≡ None =
+    let by_tests : (a b : Bool) → nat_lt v (2 ^ 64) ≡ a → bytes_eq (decimal v) text ≡ b
+    → cond (a && b) (Some v) None ≡ None =
     λ a b. elim a as (λ a. nat_lt v (2 ^ 64) ≡ a → bytes_eq (decimal v) text ≡ b → cond (a && b) (Some v) None ≡ None) [
       | false ↦ λ p q. refl
-      | true ↦ elim b as (λ b. nat_lt v (2 ^ 64) ≡ true → bytes_eq (decimal v) text ≡ b → cond (true && b) (Some v) None ≡ None)
-          [ false ↦ λ p q. refl | true ↦ λ p q. absurd (other v (ltb-true _ _ p) (sym ((bytes_eq-Decides (decimal v) text).0 q))) ]
+      | true ↦ elim b as
+          (λ b. nat_lt v (2 ^ 64) ≡ true → bytes_eq (decimal v) text ≡ b → cond (true && b) (Some v) None ≡ None) [
+            | false ↦ λ p q. refl
+            | true ↦ λ p q.
+                absurd (other v (ltb-true _ _ p) (sym ((bytes_eq-Decides (decimal v) text).0 q)))
+          ]
     ] in
     by_tests (nat_lt v (2 ^ 64)) (bytes_eq (decimal v) text) refl refl
 
@@ -37,12 +43,14 @@ pub decimal_from_number_of : (text : List ℕ) (n : ℕ) → number_of text ≡ 
 unfolding number_of
 decimal_from_number_of text n has =
     let v = digits_value 10 text in
-    let by_tests : (a b : Bool) → nat_lt v (2 ^ 64) ≡ a → bytes_eq (decimal v) text ≡ b → cond (a && b) (Some v) None ≡ Some n
+    let by_tests : (a b : Bool) → nat_lt v (2 ^ 64) ≡ a → bytes_eq (decimal v) text ≡ b
+    → cond (a && b) (Some v) None ≡ Some n
     → (n < 2 ^ 64) × (text ≡ decimal n) =
     λ a b. elim a as (λ a. nat_lt v (2 ^ 64) ≡ a → bytes_eq (decimal v) text ≡ b → cond (a && b) (Some v) None ≡ Some n
     → (n < 2 ^ 64) × (text ≡ decimal n)) [
       | false ↦ λ p q h. absurd (let none : None ≡ Some n = h in cc)
-      | true ↦ elim b as (λ b. nat_lt v (2 ^ 64) ≡ true → bytes_eq (decimal v) text ≡ b → cond (true && b) (Some v) None ≡ Some n
+      | true ↦ elim b as
+          (λ b. nat_lt v (2 ^ 64) ≡ true → bytes_eq (decimal v) text ≡ b → cond (true && b) (Some v) None ≡ Some n
           → (n < 2 ^ 64) × (text ≡ decimal n)) [
             | false ↦ λ p q h. absurd (let none : None ≡ Some n = h in cc)
             | true ↦ λ p q h.

@@ -1,9 +1,11 @@
 -- What the command words name: a job, or the first fault.
-use Rattle.std.specs.Prelude.{ℕ, ◌≤◌, ⊤, List, [], ◌∷◌, Bool, false, not, Option, Some, None, nat_eq, unwrap_or, Result, Ok, Err, codes, if◌then◌else◌}
+use Rattle.std.specs.Prelude.{ℕ, ◌≤◌, ⊤, List, [], ◌∷◌, Bool, false, not, Option, Some, None, nat_eq, unwrap_or, Result}
+use Rattle.std.specs.Prelude.{Ok, Err, codes, if◌then◌else◌}
 use Rattle.std.specs.List.{starts_with}
 use Rattle.std.specs.Str.{bytes_eq}
 use Rattle.solver_words.specs.declared.fault.WordFault.{WordFault}
-use Rattle.solver_words.specs.declared.fault.WordFault.TheVariants.{NoCommand, UnknownCommand, MissingName, UnknownOption, MissingSeed}
+use Rattle.solver_words.specs.declared.fault.WordFault.TheVariants.{NoCommand, UnknownCommand, MissingName}
+use Rattle.solver_words.specs.declared.fault.WordFault.TheVariants.{UnknownOption, MissingSeed}
 use Rattle.solver_words.specs.declared.job.Job.{Job}
 use Rattle.solver_words.specs.declared.job.Job.TheVariants as job
 use Rattle.solver_words.specs.declared.job.MemoWord.TheVariants.{Linked}
@@ -97,7 +99,8 @@ name_count job.Rules = 1
 
 -- the numbers of the job are within their limits; a seed may be any number
 abbrev pub IsWithinLimits : Job → Type 0
-IsWithinLimits (job.Solve source cache nodes narrow way memo) = (1 ≤ cache) × (cache ≤ 4000000) × (1 ≤ nodes) × (nodes ≤ 1000000000000) × (narrow ≤ 1000000000000)
+IsWithinLimits (job.Solve source cache nodes narrow way memo) = (1 ≤ cache) × (cache ≤ 4000000) × (1 ≤ nodes)
+    × (nodes ≤ 1000000000000) × (narrow ≤ 1000000000000)
 IsWithinLimits job.Replay = ⊤
 IsWithinLimits (job.Deal seed) = ⊤
 IsWithinLimits job.Rules = ⊤

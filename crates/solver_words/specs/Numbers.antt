@@ -5,7 +5,8 @@ use Rattle.std.specs.Str.Parse.{digits_value}
 
 -- the number below 2 ^ 64 whose decimal text this is
 unfoldable pub number_of : List ℕ → Option ℕ
-number_of text = if nat_lt (digits_value 10 text) (2 ^ 64) && bytes_eq (decimal (digits_value 10 text)) text then Some (digits_value 10 text) else None
+number_of text = if nat_lt (digits_value 10 text) (2 ^ 64) && bytes_eq (decimal (digits_value 10 text)) text
+    then Some (digits_value 10 text) else None
 
 -- the number, where it is within the limits
 abbrev pub within : ℕ → ℕ → Option ℕ → Option ℕ

@@ -1,8 +1,10 @@
 -- The options of a command, as they are read from left to right.
-use Rattle.std.specs.Prelude.{ℕ, ◌+◌, true, false, List, [], ◌∷◌, Bool, Option, Some, None, is_some, Result, Ok, Err, codes, if◌then◌else◌}
+use Rattle.std.specs.Prelude.{ℕ, ◌+◌, true, false, List, [], ◌∷◌, Bool, Option, Some, None, is_some, Result, Ok, Err}
+use Rattle.std.specs.Prelude.{codes, if◌then◌else◌}
 use Rattle.std.specs.Str.{bytes_eq}
 use Rattle.solver_words.specs.declared.fault.WordFault.{WordFault}
-use Rattle.solver_words.specs.declared.fault.WordFault.TheVariants.{UnknownOption, RepeatedOption, MissingValue, BadOptionValue}
+use Rattle.solver_words.specs.declared.fault.WordFault.TheVariants.{UnknownOption, RepeatedOption}
+use Rattle.solver_words.specs.declared.fault.WordFault.TheVariants.{MissingValue, BadOptionValue}
 use Rattle.solver_words.specs.declared.job.MemoWord.{MemoWord}
 use Rattle.solver_words.specs.declared.job.MemoWord.TheVariants.{Linked, Lru}
 use Rattle.solver_words.specs.declared.job.Way.{Way}
@@ -95,16 +97,21 @@ value_at at (Some value) = Ok value
 
 -- the options with this one too, whose value is the word at the place
 abbrev pub with_value : ℕ → Setting → Options → List ℕ → Result Options WordFault
-with_value at Cache given word = value_at at (number_within 1 4000000 word) >>= λ n. Ok (record given { cache = Some n })
-with_value at Nodes given word = value_at at (number_within 1 1000000000000 word) >>= λ n. Ok (record given { nodes = Some n })
-with_value at Narrow given word = value_at at (number_within 0 1000000000000 word) >>= λ n. Ok (record given { narrow = Some n })
+with_value at Cache given word = value_at at (number_within 1 4000000 word) >>= λ n.
+    Ok (record given { cache = Some n })
+with_value at Nodes given word = value_at at (number_within 1 1000000000000 word) >>= λ n.
+    Ok (record given { nodes = Some n })
+with_value at Narrow given word = value_at at (number_within 0 1000000000000 word) >>= λ n.
+    Ok (record given { narrow = Some n })
 with_value at setting.Way given word = value_at at (way_named word) >>= λ way. Ok (record given { way = Some way })
 with_value at Memo given word = value_at at (memo_named word) >>= λ memo. Ok (record given { memo = Some memo })
-with_value at Seed given word = value_at at (number_within 0 18446744073709551615 word) >>= λ n. Ok (record given { seed = Some n })
+with_value at Seed given word = value_at at (number_within 0 18446744073709551615 word) >>= λ n.
+    Ok (record given { seed = Some n })
 
 -- the options from the word at the place on, after those that were given before it
 abbrev pub options_from : Taker → ℕ → Options → List (List ℕ) → Result Options WordFault
 options_from taker at given [] = Ok given
 options_from taker at given (option ∷ []) = setting_at taker at option given >>= λ setting. Err (MissingValue at)
 options_from taker at given (option ∷ value ∷ rest) =
-    setting_at taker at option given >>= λ setting. with_value (at + 1) setting given value >>= λ more. options_from taker (at + 2) more rest
+    setting_at taker at option given >>= λ setting. with_value (at + 1) setting given value >>= λ more.
+    options_from taker (at + 2) more rest

@@ -1,6 +1,9 @@
 //! The options of a command.
 ghost use Rattle.std.specs.Prelude.{◌≡◌, ◌+◌, ◌<◌, ◌^◌, length};
-ghost use Rattle.solver_words.specs.Options.{has_option, setting_named as setting_named_of, memo_named as memo_named_of, way_named as way_named_of, setting_of, is_given, setting_at, with_value as with_value_of, options_from, no_options};
+ghost use Rattle.solver_words.specs.Options.{has_option, setting_named as setting_named_of};
+ghost use Rattle.solver_words.specs.Options.{memo_named as memo_named_of, way_named as way_named_of, setting_of};
+ghost use Rattle.solver_words.specs.Options.{is_given, setting_at, with_value as with_value_of};
+ghost use Rattle.solver_words.specs.Options.{options_from, no_options};
 ghost use Rattle.solver_words.specs.Texts.{texts};
 
 use crate::number::number_within;

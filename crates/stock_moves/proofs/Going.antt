@@ -1,5 +1,7 @@
 -- Runs of stock moves that go on, and runs that end.
-use Rattle.std.proofs.Common.{◌≡◌, ◌≢◌, ◌⊎◌, inl, inr, ℕ, zero, suc, ◌+◌, ◌≤◌, Bool, true, false, ◌||◌, ◌==◌, List, [], ◌∷◌, ◌++◌, length, refl, ap, sym, ◌∙◌, subst, arith, IsTrue, Some, None, ◌↔◌, append-nil, append_assoc}
+use Rattle.std.proofs.Common.{◌≡◌, ◌≢◌, ◌⊎◌, inl, inr, ℕ, zero, suc, ◌+◌, ◌≤◌, Bool, true, false, ◌||◌, ◌==◌, List, []}
+use Rattle.std.proofs.Common.{◌∷◌, ◌++◌, length, refl, ap, sym, ◌∙◌, subst, arith, IsTrue, Some, None, ◌↔◌}
+use Rattle.std.proofs.Common.{append-nil, append_assoc}
 use Rattle.std.specs.List.{flat_map, range_with_len}
 use Rattle.std.proofs.lemmas.Bool.{cases_lt}
 use Rattle.std.proofs.lemmas.Bool.Decides.{nat_tests}
@@ -22,7 +24,8 @@ use Rattle.stock_moves.specs.GoesOn.{GoesOn, next_stock}
 abbrev pub boards_of : RuleParts → Board → ℕ → Board
 boards_of rules board i = after_stock_moves rules i board
 
--- what is known of a run that was dealt out so far: its boards, the length of its first stock, and whether a stock was empty
+-- what is known of a run that was dealt out so far: its boards, the length of its first stock, and whether a stock was
+-- empty
 pub record Underway (rules : RuleParts) (board : Board) (deals first : ℕ) (emptied : Bool) : Type 0 where
   pub run : IsStockRun rules board deals (boards_of rules board)
   pub starts : first ≡ length board.stock
@@ -40,13 +43,16 @@ underway-begins rules board first emptied e seen told = record {
   };
   starts = e;
   seen = λ t. (0, omega arith, seen t);
-  told = λ j h none. let same : j ≡ 0 = omega (arith, h) in told (subst (λ (i : ℕ). (boards_of rules board i).stock ≡ []) same none);
+  told = λ j h none. let same : j ≡ 0 = omega (arith, h) in
+      told (subst (λ (i : ℕ). (boards_of rules board i).stock ≡ []) same none);
 }
 
 -- a run that goes on is not back at one of its boards
-not_before : (rules : RuleParts) (board : Board) (deals first : ℕ) (emptied : Bool) (t : Bool) → is_unlimited rules.redeals ≡ t → 1 ≤ rules.draw
+not_before : (rules : RuleParts) (board : Board) (deals first : ℕ) (emptied : Bool) (t : Bool)
+    → is_unlimited rules.redeals ≡ t → 1 ≤ rules.draw
     → IsTrue (deals_to_waste rules.target) → Underway rules board deals first emptied
-    → (on : GoesOn rules (boards_of rules board deals) first emptied) → StandsBefore (boards_of rules board) deals on.next → ⊥
+    → (on : GoesOn rules (boards_of rules board deals) first emptied)
+    → StandsBefore (boards_of rules board) deals on.next → ⊥
 not_before rules board deals first emptied false e draws to_waste underway on at =
     never_again rules board on.next deals (boards_of rules board) e draws to_waste underway.run on.is_next at
 not_before rules board deals first emptied true e draws to_waste underway on at =
@@ -65,7 +71,8 @@ next_board rules board k next to_waste is_next =
 -- a run that goes on has one board more
 pub run-more : (rules : RuleParts) (board : Board) (deals first : ℕ) (emptied : Bool) → 1 ≤ rules.draw
     → IsTrue (deals_to_waste rules.target) → Underway rules board deals first emptied
-    → GoesOn rules (boards_of rules board deals) first emptied → IsStockRun rules board (suc deals) (boards_of rules board)
+    → GoesOn rules (boards_of rules board deals) first emptied
+    → IsStockRun rules board (suc deals) (boards_of rules board)
 run-more rules board deals first emptied draws to_waste underway on =
     let same : on.next ≡ boards_of rules board (suc deals) = next_board rules board deals on.next to_waste on.is_next in
     record {
@@ -103,7 +110,8 @@ goes_empty rules board deals first emptied false e underway next is_next again o
     })
 
 -- a next board that the run does not have lets it go on
-goes_by : (rules : RuleParts) (board : Board) (deals first : ℕ) (emptied : Bool) (t : Bool) → is_unlimited rules.redeals ≡ t → 1 ≤ rules.draw
+goes_by : (rules : RuleParts) (board : Board) (deals first : ℕ) (emptied : Bool) (t : Bool)
+    → is_unlimited rules.redeals ≡ t → 1 ≤ rules.draw
     → IsTrue (deals_to_waste rules.target) → Underway rules board deals first emptied
     → (next : Board) → IsNextByStock rules (boards_of rules board deals) next
     → StandsBefore (boards_of rules board) deals next ⊎ GoesOn rules (boards_of rules board deals) first emptied
@@ -135,11 +143,13 @@ goes_by rules board deals first emptied true e draws to_waste underway next is_n
 -- a run that does not go on is whole
 pub run-whole : (rules : RuleParts) (board : Board) (deals first : ℕ) (emptied : Bool) → 1 ≤ rules.draw
     → IsTrue (deals_to_waste rules.target) → Underway rules board deals first emptied
-    → (GoesOn rules (boards_of rules board deals) first emptied → ⊥) → IsWholeRun rules board deals (boards_of rules board)
+    → (GoesOn rules (boards_of rules board deals) first emptied → ⊥)
+    → IsWholeRun rules board deals (boards_of rules board)
 run-whole rules board deals first emptied draws to_waste underway ends = record {
   run = underway.run;
   closed = λ next is_next.
-      elim (goes_by rules board deals first emptied (is_unlimited rules.redeals) refl draws to_waste underway next is_next) [
+      elim (goes_by rules board deals first emptied (is_unlimited rules.redeals) refl draws to_waste
+      underway next is_next) [
         | inl before ↦ before
         | inr on ↦ absurd (ends on)
       ];
@@ -171,14 +181,16 @@ underway-more rules board deals first emptied now draws to_waste underway on eit
 
 -- the steps along the first boards of a run
 abbrev pub steps_upto : RuleParts → Board → ℕ → List Step
-steps_upto rules board k = flat_map (λ i. steps_from i (waste_carries rules (boards_of rules board i))) (range_with_len 0 k)
+steps_upto rules board k = flat_map (λ i. steps_from i (waste_carries rules (boards_of rules board i)))
+    (range_with_len 0 k)
 
 range-more : (low n last : ℕ) → low + n ≡ last → range_with_len low (suc n) ≡ range_with_len low n ++ last ∷ []
 range-more low zero last e = let same : low ≡ last = omega (arith, e) in ap (λ (i : ℕ). i ∷ []) same
 range-more low (suc n) last e = ap (λ (is : List ℕ). low ∷ is) (range-more (low + 1) n last (omega (arith, e)))
 
 pub steps_upto-more : (rules : RuleParts) (board : Board) (k : ℕ)
-    → steps_upto rules board (suc k) ≡ steps_upto rules board k ++ steps_from k (waste_carries rules (boards_of rules board k))
+    → steps_upto rules board (suc k) ≡ steps_upto rules board k
+    ++ steps_from k (waste_carries rules (boards_of rules board k))
 steps_upto-more rules board k =
     let piece : ℕ → List Step = λ i. steps_from i (waste_carries rules (boards_of rules board i)) in
     ap (flat_map piece) (range-more 0 k k (omega arith))
@@ -186,10 +198,12 @@ steps_upto-more rules board k =
     ∙ ap (λ (xs : List Step). steps_upto rules board k ++ xs) (append-nil (piece k))
 
 -- the board after the next stock move, by the length of its stock
-next_known : (rules : RuleParts) (a : Board) (n : ℕ) → IsTrue (deals_to_waste rules.target) → next_stock rules a ≡ Some n
+next_known : (rules : RuleParts) (a : Board) (n : ℕ) → IsTrue (deals_to_waste rules.target)
+    → next_stock rules a ≡ Some n
     → (next : Board) × IsNextByStock rules a next × (length next.stock ≡ n)
 next_known rules a n to_waste e = elim (stock_move_cases rules a to_waste) [
-  | inl none ↦ absurd (let nothing : next_stock rules a ≡ None = rw none refl in let clash : Some n ≡ None = sym e ∙ nothing in cc)
+  | inl none ↦ absurd
+      (let nothing : next_stock rules a ≡ None = rw none refl in let clash : Some n ≡ None = sym e ∙ nothing in cc)
   | inr has ↦
       let one : stock_move rules a ≡ Some has.move = has.is_one in
       let known : next_stock rules a ≡ Some (length (after rules a has.move).stock) = rw one refl in
@@ -199,10 +213,12 @@ next_known rules a n to_waste e = elim (stock_move_cases rules a to_waste) [
 ]
 
 -- where redeals are counted, a next stock move is enough
-pub on-counted : (rules : RuleParts) (a : Board) (first : ℕ) (emptied : Bool) (n : ℕ) → IsTrue (deals_to_waste rules.target)
+pub on-counted : (rules : RuleParts) (a : Board) (first : ℕ) (emptied : Bool) (n : ℕ)
+    → IsTrue (deals_to_waste rules.target)
     → is_unlimited rules.redeals ≡ false → next_stock rules a ≡ Some n → GoesOn rules a first emptied
 on-counted rules a first emptied n to_waste counted e =
-    let known : (next : Board) × IsNextByStock rules a next × (length next.stock ≡ n) = next_known rules a n to_waste e in
+    let known : (next : Board) × IsNextByStock rules a next
+    × (length next.stock ≡ n) = next_known rules a n to_waste e in
     record {
       next = known.0;
       is_next = known.1;
@@ -211,11 +227,13 @@ on-counted rules a first emptied n to_waste counted e =
     }
 
 -- where they are unlimited, its length decides
-pub on-unlimited : (rules : RuleParts) (a : Board) (first : ℕ) (emptied : Bool) (n : ℕ) → IsTrue (deals_to_waste rules.target)
+pub on-unlimited : (rules : RuleParts) (a : Board) (first : ℕ) (emptied : Bool) (n : ℕ)
+    → IsTrue (deals_to_waste rules.target)
     → IsTrue (is_unlimited rules.redeals) → next_stock rules a ≡ Some n
     → ((n ≢ first) × (IsTrue emptied → n ≢ 0)) ↔ GoesOn rules a first emptied
 on-unlimited rules a first emptied n to_waste unlimited e =
-    let known : (next : Board) × IsNextByStock rules a next × (length next.stock ≡ n) = next_known rules a n to_waste e in (
+    let known : (next : Board) × IsNextByStock rules a next
+    × (length next.stock ≡ n) = next_known rules a n to_waste e in (
       λ h. record {
         next = known.0;
         is_next = known.1;
@@ -225,8 +243,11 @@ on-unlimited rules a first emptied n to_waste unlimited e =
       λ on.
           let same : on.next ≡ known.0 =
           next_is rules a on.next to_waste on.is_next ∙ sym (next_is rules a known.0 to_waste known.1) in
-          let long : length on.next.stock ≡ n = ap (λ (b : Board). length b.stock) same ∙ known.2 in
-          (λ is. on.other unlimited (long ∙ is), λ was is. on.some unlimited was (nil_from_length on.next.stock (long ∙ is))),
+          let long : length on.next.stock ≡ n = ap (λ (b : Board). length b.stock) same ∙ known.2 in (
+            λ is. on.other unlimited (long ∙ is),
+            λ was is.
+                on.some unlimited was (nil_from_length on.next.stock (long ∙ is)),
+          ),
     )
 
 -- and without a next stock move the run ends
@@ -269,7 +290,8 @@ underway-next rules board deals first emptied now draws to_waste underway on is 
     underway-more rules board deals first emptied now draws to_waste underway on
     (λ t. elim (either_of emptied none (sym is ∙ t)) [
       | inl was ↦ inl was
-      | inr empty ↦ inr (nil_from_length (boards_of rules board (suc deals)).stock (is_zero (length (boards_of rules board (suc deals)).stock) empty))
+      | inr empty ↦ inr (nil_from_length (boards_of rules board (suc deals)).stock
+          (is_zero (length (boards_of rules board (suc deals)).stock) empty))
     ])
     (λ was. is ∙ left_of emptied none was)
     (λ empty. is ∙ right_of emptied none (zero_is (length (boards_of rules board (suc deals)).stock) (ap length empty)))
@@ -294,11 +316,13 @@ has-one rules a first emptied to_waste on = record {
 -- the carries of one board more
 pub listed-more : (rules : RuleParts) (board here : Board) (deals : ℕ) (before old new : List Step)
     → old ≡ before ++ steps_upto rules board (deals + 1) → here ≡ boards_of rules board (suc deals)
-    → new ≡ old ++ steps_from (deals + 1) (waste_carries rules here) → new ≡ before ++ steps_upto rules board (suc deals + 1)
+    → new ≡ old ++ steps_from (deals + 1) (waste_carries rules here)
+    → new ≡ before ++ steps_upto rules board (suc deals + 1)
 listed-more rules board here deals before old new e_old e_here e_new =
     let more : deals + 1 ≡ suc deals = omega arith in
     let most : suc deals + 1 ≡ suc (suc deals) = omega arith in
-    let piece : steps_upto rules board (deals + 1) ++ steps_from (deals + 1) (waste_carries rules here) ≡ steps_upto rules board (suc deals + 1) =
+    let piece : steps_upto rules board (deals + 1)
+    ++ steps_from (deals + 1) (waste_carries rules here) ≡ steps_upto rules board (suc deals + 1) =
     ap (λ (n : ℕ). steps_upto rules board n ++ steps_from n (waste_carries rules here)) more
     ∙ ap (λ (b : Board). steps_upto rules board (suc deals) ++ steps_from (suc deals) (waste_carries rules b)) e_here
     ∙ sym (steps_upto-more rules board (suc deals))
@@ -309,7 +333,8 @@ listed-more rules board here deals before old new e_old e_here e_new =
     ∙ ap (λ (xs : List Step). before ++ xs) piece
 
 -- what is known at first
-pub underway-first : (rules : RuleParts) (board : Board) (first : ℕ) → first ≡ length board.stock → Underway rules board 0 first (first == 0)
+pub underway-first : (rules : RuleParts) (board : Board) (first : ℕ) → first ≡ length board.stock
+    → Underway rules board 0 first (first == 0)
 underway-first rules board first e =
     underway-begins rules board first (first == 0) e
     (λ t. nil_from_length board.stock (sym e ∙ is_zero first t))

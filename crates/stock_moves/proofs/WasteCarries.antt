@@ -24,16 +24,20 @@ use Rattle.stock_moves.specs.declared.onto.Kind.TheVariants.{Foundations, Slots,
 use Rattle.stock_moves.specs.Onto.{place_in, steps_onto}
 
 -- a move that fails the one test is passed by, whatever the other says
-passed_by : (p : Move → Bool) (t : Bool) (m : Move) (ms : List Move) → p m ≡ false → filter p ms ≡ [] → filter p (cond t (m ∷ ms) ms) ≡ []
+passed_by : (p : Move → Bool) (t : Bool) (m : Move) (ms : List Move) → p m ≡ false → filter p ms ≡ []
+    → filter p (cond t (m ∷ ms) ms) ≡ []
 passed_by p true m ms fails none = rw fails none
 passed_by p false m ms fails none = none
 
-none_between : (rules : RuleParts) (board : Board) (to from : Place) → ((n : ℕ) → is_from_waste (Carry from to n) ≡ false)
-    → (counts : List ℕ) → filter is_from_waste (filter (is_legal_move rules board) (map (λ count. Carry from to count) counts)) ≡ []
+none_between : (rules : RuleParts) (board : Board) (to from : Place)
+    → ((n : ℕ) → is_from_waste (Carry from to n) ≡ false)
+    → (counts : List ℕ)
+    → filter is_from_waste (filter (is_legal_move rules board) (map (λ count. Carry from to count) counts)) ≡ []
 none_between rules board to from fails [] = refl
 none_between rules board to from fails (n ∷ counts) =
     passed_by is_from_waste (is_legal_move rules board (Carry from to n)) (Carry from to n)
-    (filter (is_legal_move rules board) (map (λ count. Carry from to count) counts)) (fails n) (none_between rules board to from fails counts)
+    (filter (is_legal_move rules board) (map (λ count. Carry from to count) counts)) (fails n)
+    (none_between rules board to from fails counts)
 
 -- the carries from the waste between two places
 abbrev waste_between : RuleParts → Board → Place → Place → List Move
@@ -46,23 +50,30 @@ waste_alone rules board to =
     let f : Place → List Move = waste_between rules board to in
     let piles : flat_map f (map Tableau (range_with_len 0 (length board.piles))) ≡ [] =
     flat_map-none f Tableau (range_with_len 0 (length board.piles))
-    (λ n. none_between rules board to (Tableau n) (λ k. refl) (range_with_len 1 (most_taken rules board (Tableau n)))) in
+    (λ n. none_between rules board to (Tableau n) (λ k. refl)
+    (range_with_len 1 (most_taken rules board (Tableau n)))) in
     let cells : flat_map f (map Cell (range_with_len 0 (length board.cells))) ≡ [] =
-    flat_map-none f Cell (range_with_len 0 (length board.cells)) (λ n. none_between rules board to (Cell n) (λ k. refl) (1 ∷ [])) in
+    flat_map-none f Cell (range_with_len 0 (length board.cells))
+    (λ n. none_between rules board to (Cell n) (λ k. refl) (1 ∷ [])) in
     let reserve : flat_map f (map Reserve (range_with_len 0 (entry_count rules board))) ≡ [] =
-    flat_map-none f Reserve (range_with_len 0 (entry_count rules board)) (λ n. none_between rules board to (Reserve n) (λ k. refl) (1 ∷ [])) in
+    flat_map-none f Reserve (range_with_len 0 (entry_count rules board))
+    (λ n. none_between rules board to (Reserve n) (λ k. refl) (1 ∷ [])) in
     let foundations : flat_map f (map Foundation (range_with_len 0 (length board.heights))) ≡ [] =
-    flat_map-none f Foundation (range_with_len 0 (length board.heights)) (λ n. none_between rules board to (Foundation n) (λ k. refl) (1 ∷ [])) in
+    flat_map-none f Foundation (range_with_len 0 (length board.heights))
+    (λ n. none_between rules board to (Foundation n) (λ k. refl) (1 ∷ [])) in
     let slots : flat_map f (map Slot (range_with_len 0 (length board.slots))) ≡ [] =
-    flat_map-none f Slot (range_with_len 0 (length board.slots)) (λ n. none_between rules board to (Slot n) (λ k. refl) (1 ∷ [])) in
+    flat_map-none f Slot (range_with_len 0 (length board.slots))
+    (λ n. none_between rules board to (Slot n) (λ k. refl) (1 ∷ [])) in
     simp (flat_map-append, piles, cells, reserve, foundations, slots, append-nil) refl
 
-kept_one : (to : Place) (t : Bool) → filter is_from_waste (cond t (Carry Waste to 1 ∷ []) []) ≡ cond t (Carry Waste to 1 ∷ []) []
+kept_one : (to : Place) (t : Bool) → filter is_from_waste (cond t (Carry Waste to 1 ∷ []) []) ≡ cond t
+    (Carry Waste to 1 ∷ []) []
 kept_one to true = refl
 kept_one to false = refl
 
 waste_to : (rules : RuleParts) (board : Board) (to : Place)
-    → filter is_from_waste (legal_to rules board (sources rules board) to) ≡ filter (is_legal_move rules board) (Carry Waste to 1 ∷ [])
+    → filter is_from_waste (legal_to rules board (sources rules board) to) ≡ filter (is_legal_move rules board)
+    (Carry Waste to 1 ∷ [])
 waste_to rules board to =
     filter-flat_map is_from_waste (legal_between rules board to) (sources rules board)
     ∙ waste_alone rules board to
@@ -71,7 +82,8 @@ waste_to rules board to =
 flat_map-same : (f g : Place → List Move) (xs : List Place) → ((x : Place) → f x ≡ g x) → flat_map f xs ≡ flat_map g xs
 flat_map-same f g [] same = refl
 flat_map-same f g (x ∷ xs) same =
-    ap (λ (ys : List Move). ys ++ flat_map f xs) (same x) ∙ ap (λ (ys : List Move). g x ++ ys) (flat_map-same f g xs same)
+    ap (λ (ys : List Move). ys ++ flat_map f xs) (same x) ∙ ap (λ (ys : List Move). g x ++ ys)
+    (flat_map-same f g xs same)
 
 steps_from-flat_map : (deals : ℕ) (f : Place → List Move) (xs : List Place)
     → steps_from deals (flat_map f xs) ≡ flat_map (λ x. steps_from deals (f x)) xs
@@ -80,9 +92,11 @@ steps_from-flat_map deals f (x ∷ xs) =
     map-append (λ (move : Move). record { deals = deals; last = move }) (f x) (flat_map f xs)
     ∙ ap (λ (ys : List Step). steps_from deals (f x) ++ ys) (steps_from-flat_map deals f xs)
 
-no_stock_move : (rules : RuleParts) (board : Board) → filter is_from_waste (filter (is_legal_move rules board) (Deal ∷ Redeal ∷ [])) ≡ []
+no_stock_move : (rules : RuleParts) (board : Board)
+    → filter is_from_waste (filter (is_legal_move rules board) (Deal ∷ Redeal ∷ [])) ≡ []
 no_stock_move rules board =
-    passed_by is_from_waste (is_legal_move rules board Deal) Deal (filter (is_legal_move rules board) (Redeal ∷ [])) refl
+    passed_by is_from_waste (is_legal_move rules board Deal) Deal
+    (filter (is_legal_move rules board) (Redeal ∷ [])) refl
     (passed_by is_from_waste (is_legal_move rules board Redeal) Redeal [] refl refl)
 
 -- the carries from the waste are those onto each place in turn
@@ -90,7 +104,8 @@ pub waste_carries-onto : (rules : RuleParts) (board : Board) (deals : ℕ)
     → steps_from deals (waste_carries rules board) ≡ flat_map (steps_onto rules board deals) (targets rules board)
 waste_carries-onto rules board deals =
     let carries : List Move = flat_map (legal_to rules board (sources rules board)) (targets rules board) in
-    let kept : waste_carries rules board ≡ flat_map (λ to. filter (is_legal_move rules board) (Carry Waste to 1 ∷ [])) (targets rules board) =
+    let kept : waste_carries rules board ≡ flat_map (λ to. filter (is_legal_move rules board) (Carry Waste to 1 ∷ []))
+    (targets rules board) =
     ap (filter is_from_waste) (legal_moves-by_place rules board)
     ∙ filter-append is_from_waste carries (filter (is_legal_move rules board) (Deal ∷ Redeal ∷ []))
     ∙ ap (λ (xs : List Move). filter is_from_waste carries ++ xs) (no_stock_move rules board)

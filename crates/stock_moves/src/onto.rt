@@ -67,7 +67,8 @@ fn push_onto_each(
     out: &mut Vec<Step>,
 ) -> Result<(), AllocError>
     requires { Belongs rules.now (board_of packed.now) }
-    ensures ok { OnOk result (out.new.items ≡ out.old.items ++ flat_map (steps_onto rules.now (board_of packed.now) deals) (map (place_in kind) (range_with_len 0 n))) }
+    ensures ok { OnOk result (out.new.items ≡ out.old.items
+        ++ flat_map (steps_onto rules.now (board_of packed.now) deals) (map (place_in kind) (range_with_len 0 n))) }
     ensures err { OnErr result (StartsWith out.new.items out.old.items) }
 {
     for i in 0..n {
@@ -84,7 +85,8 @@ fn push_into_hole(
     out: &mut Vec<Step>,
 ) -> Result<(), AllocError>
     requires { Belongs rules.now (board_of packed.now) }
-    ensures ok { OnOk result (out.new.items ≡ out.old.items ++ flat_map (steps_onto rules.now (board_of packed.now) deals) (hole_place rules.now)) }
+    ensures ok { OnOk result (out.new.items ≡ out.old.items ++ flat_map
+        (steps_onto rules.now (board_of packed.now) deals) (hole_place rules.now)) }
     ensures err { OnErr result (StartsWith out.new.items out.old.items) }
 {
     if rules.has_hole() {
@@ -101,7 +103,8 @@ pub(crate) fn push_waste_carries(
     out: &mut Vec<Step>,
 ) -> Result<(), AllocError>
     requires { Belongs rules.now (board_of packed.now) }
-    ensures ok { OnOk result (out.new.items ≡ out.old.items ++ steps_from deals (waste_carries rules.now (board_of packed.now))) }
+    ensures ok { OnOk result (out.new.items ≡ out.old.items ++ steps_from deals
+        (waste_carries rules.now (board_of packed.now))) }
     ensures err { OnErr result (StartsWith out.new.items out.old.items) }
 {
     // A game without a stock asks no place for a card that is not there.

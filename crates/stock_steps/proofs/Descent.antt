@@ -1,5 +1,6 @@
 -- A board that wins within n + 1 has a step to a board that wins within n.
-use Rattle.std.proofs.Common.{◌≡◌, ◌⊎◌, inl, inr, ℕ, zero, suc, ◌+◌, ◌<◌, ◌≤◌, Bool, true, false, ◌&&◌, not, List, [], ◌∷◌, length, refl, ap, sym, ◌∙◌, subst, arith, IsTrue, None}
+use Rattle.std.proofs.Common.{◌≡◌, ◌⊎◌, inl, inr, ℕ, zero, suc, ◌+◌, ◌<◌, ◌≤◌, Bool, true, false, ◌&&◌, not, List, []}
+use Rattle.std.proofs.Common.{◌∷◌, length, refl, ap, sym, ◌∙◌, subst, arith, IsTrue, None}
 use Rattle.std.specs.List.{Contains}
 use Rattle.game_rules.specs.declared.RuleParts.{RuleParts}
 use Rattle.game_rules.specs.declared.Place.{Place}
@@ -12,7 +13,8 @@ use Rattle.game_rules.specs.Winning.{Line, Won, Wins}
 use Rattle.game_rules.specs.Order.{legal_moves}
 use Rattle.game_rules.specs.StockMoves.{is_carry, after_stock_move, after_stock_moves}
 use Rattle.safe_moves.specs.Safe.{first_safe}
-use Rattle.stock_steps.specs.Steps.{is_from_waste, is_from_elsewhere, other_carries, stock_steps_after, steps_from, most_stock_moves, free_steps, steps, waste_carries}
+use Rattle.stock_steps.specs.Steps.{is_from_waste, is_from_elsewhere, other_carries, stock_steps_after, steps_from}
+use Rattle.stock_steps.specs.Steps.{most_stock_moves, free_steps, steps, waste_carries}
 use Rattle.stock_steps.specs.StockSteps.{HasWinningStep, Commute, IsReached}
 use Rattle.stock_steps.specs.declared.Step.{Step}
 use Rattle.stock_steps.proofs.Members.{Mem, Contains-from_Mem, Mem-left, Mem-right, Mem-filter}
@@ -49,9 +51,26 @@ begin_carry : (rules : RuleParts) (board end : Board) (from to : Place) (count :
     → Line rules (after rules board (Carry from to count)) moves end
     → Early rules board end (suc (length moves)) ⊎ Drawn rules board end (suc (length moves))
 begin_carry rules board end from to count moves true e legal line =
-    inr (record { deals = 0; move = Carry from to count; from_waste = e; legal = legal; rest = moves; short = omega arith; line = line })
+    inr (record {
+      deals = 0;
+      move = Carry from to count;
+      from_waste = e;
+      legal = legal;
+      rest = moves;
+      short = omega arith;
+      line = line;
+    })
 begin_carry rules board end from to count moves false e legal line =
-    inl (record { from = from; to = to; count = count; not_from_waste = e; legal = legal; rest = moves; short = omega arith; line = line })
+    inl (record {
+      from = from;
+      to = to;
+      count = count;
+      not_from_waste = e;
+      legal = legal;
+      rest = moves;
+      short = omega arith;
+      line = line;
+    })
 
 begin_stock : (rules : RuleParts) (board end : Board) (move : Move) (n : ℕ) → IsTrue (deals_to_waste rules.target)
     → IsTrue (not (is_carry move)) → Legal rules board move
@@ -60,7 +79,8 @@ begin_stock : (rules : RuleParts) (board end : Board) (move : Move) (n : ℕ) �
 begin_stock rules board end move n to_waste is_stock_move legal h = elim h [
   | inl early ↦
       let change : Commute rules board move (Carry early.from early.to early.count) =
-      carry_first rules board move early.from early.to early.count to_waste is_stock_move legal early.not_from_waste early.legal in
+      carry_first rules board move early.from early.to early.count to_waste is_stock_move legal
+      early.not_from_waste early.legal in
       inl (record {
         from = early.from;
         to = early.to;
@@ -73,7 +93,8 @@ begin_stock rules board end move n to_waste is_stock_move legal h = elim h [
       })
   | inr drawn ↦
       let next : after rules board move ≡ after_stock_move rules board =
-      next_is rules board (after rules board move) to_waste (record { move = move; is_stock_move = is_stock_move; legal = legal; is_after = refl }) in
+      next_is rules board (after rules board move) to_waste
+      (record { move = move; is_stock_move = is_stock_move; legal = legal; is_after = refl }) in
       inr (record {
         deals = suc drawn.deals;
         move = drawn.move;
@@ -81,7 +102,8 @@ begin_stock rules board end move n to_waste is_stock_move legal h = elim h [
         legal = subst (λ (x : Board). Legal rules (after_stock_moves rules drawn.deals x) drawn.move) next drawn.legal;
         rest = drawn.rest;
         short = omega (arith, drawn.short);
-        line = subst (λ (x : Board). Line rules (after rules (after_stock_moves rules drawn.deals x) drawn.move) drawn.rest end) next drawn.line;
+        line = subst (λ (x : Board).
+            Line rules (after rules (after_stock_moves rules drawn.deals x) drawn.move) drawn.rest end) next drawn.line;
       })
 ]
 
@@ -94,16 +116,20 @@ begins rules (Carry from to count ∷ moves) board end to_waste line won open_bo
 begins rules (Deal ∷ moves) board end to_waste line won open_board =
     begin_stock rules board end Deal (length moves) to_waste refl line.0
     (begins rules moves (after rules board Deal) end to_waste line.1 won
-    (λ win. open_board (won_before rules board (after rules board Deal) to_waste (record { move = Deal; is_stock_move = refl; legal = line.0; is_after = refl }) win)))
+    (λ win. open_board (won_before rules board (after rules board Deal) to_waste
+    (record { move = Deal; is_stock_move = refl; legal = line.0; is_after = refl }) win)))
 begins rules (Redeal ∷ moves) board end to_waste line won open_board =
     begin_stock rules board end Redeal (length moves) to_waste refl line.0
     (begins rules moves (after rules board Redeal) end to_waste line.1 won
-    (λ win. open_board (won_before rules board (after rules board Redeal) to_waste (record { move = Redeal; is_stock_move = refl; legal = line.0; is_after = refl }) win)))
+    (λ win. open_board (won_before rules board (after rules board Redeal) to_waste
+    (record { move = Redeal; is_stock_move = refl; legal = line.0; is_after = refl }) win)))
 
 -- stock moves that come back to a board may be cut: each board that they reach is one of the whole run
 
-cut_next : (rules : RuleParts) (board : Board) → IsTrue (deals_to_waste rules.target) → (found : Along rules (most_stock_moves board) 0 [] board)
-    → (i : ℕ) → i ≤ found.last → (j : ℕ) × (j ≤ found.last) × (after_stock_moves rules j board ≡ after_stock_move rules (after_stock_moves rules i board))
+cut_next : (rules : RuleParts) (board : Board) → IsTrue (deals_to_waste rules.target)
+    → (found : Along rules (most_stock_moves board) 0 [] board)
+    → (i : ℕ) → i ≤ found.last → (j : ℕ) × (j ≤ found.last)
+    × (after_stock_moves rules j board ≡ after_stock_move rules (after_stock_moves rules i board))
 cut_next rules board to_waste found i h =
     let last : ℕ = found.last in
     let cases : (i < last) ⊎ (i ≡ last) = grind arith in
@@ -111,30 +137,37 @@ cut_next rules board to_waste found i h =
       | inl more ↦ (suc i, omega arith, after_stock_moves-suc rules i board)
       | inr e ↦ elim (stock_move_cases rules (after_stock_moves rules last board) to_waste) [
         | inl none ↦
-            let same : after_stock_move rules (after_stock_moves rules last board) ≡ after_stock_moves rules last board = rw (none, after_stock_move) in
+            let same : after_stock_move rules (after_stock_moves rules last board) ≡ after_stock_moves rules last
+            board = rw (none, after_stock_move) in
             (last, omega arith, sym (ap (λ (k : ℕ). after_stock_move rules (after_stock_moves rules k board)) e ∙ same))
         | inr next ↦ elim (found.closed (after_stock_move rules (after_stock_moves rules last board)) next.is_next) [
           | inl none ↦ absurd none
-          | inr at ↦ (at.0, at.1, at.2 ∙ sym (ap (λ (k : ℕ). after_stock_move rules (after_stock_moves rules k board)) e))
+          | inr at ↦
+              (at.0, at.1, at.2 ∙ sym (ap (λ (k : ℕ). after_stock_move rules (after_stock_moves rules k board)) e))
         ]
       ]
     ]
 
-cut : (rules : RuleParts) (board : Board) → IsTrue (deals_to_waste rules.target) → (found : Along rules (most_stock_moves board) 0 [] board)
+cut : (rules : RuleParts) (board : Board) → IsTrue (deals_to_waste rules.target)
+    → (found : Along rules (most_stock_moves board) 0 [] board)
     → (k : ℕ) → (j : ℕ) × (j ≤ found.last) × (after_stock_moves rules j board ≡ after_stock_moves rules k board)
 cut rules board to_waste found zero = (0, omega arith, refl)
 cut rules board to_waste found (suc k) =
-    let before : (j : ℕ) × (j ≤ found.last) × (after_stock_moves rules j board ≡ after_stock_moves rules k board) = cut rules board to_waste found k in
-    let next : (j : ℕ) × (j ≤ found.last) × (after_stock_moves rules j board ≡ after_stock_move rules (after_stock_moves rules before.0 board)) =
+    let before : (j : ℕ) × (j ≤ found.last) × (after_stock_moves rules j board ≡ after_stock_moves rules k board) =
+    cut rules board to_waste found k in
+    let next : (j : ℕ) × (j ≤ found.last)
+    × (after_stock_moves rules j board ≡ after_stock_move rules (after_stock_moves rules before.0 board)) =
     cut_next rules board to_waste found before.0 before.1 in
     (next.0, next.1, next.2 ∙ ap (after_stock_move rules) before.2 ∙ sym (after_stock_moves-suc rules k board))
 
 -- the steps of the list
 
-carry_step : (rules : RuleParts) (board : Board) (from to : Place) (count : ℕ) → IsTrue (deals_to_waste rules.target) → is_from_waste (Carry from to count) ≡ false → Legal rules board (Carry from to count)
+carry_step : (rules : RuleParts) (board : Board) (from to : Place) (count : ℕ) → IsTrue (deals_to_waste rules.target)
+    → is_from_waste (Carry from to count) ≡ false → Legal rules board (Carry from to count)
     → Mem (record { deals = 0; last = Carry from to count }) (free_steps rules board)
 carry_step rules board from to count to_waste not_from_waste legal =
-    let test : IsTrue (is_carry (Carry from to count) && not (is_from_waste (Carry from to count))) = rw not_from_waste in
+    let test : IsTrue (is_carry (Carry from to count) && not (is_from_waste (Carry from to count))) =
+    rw not_from_waste in
     let listed : Mem (Carry from to count) (other_carries rules board) =
     Mem-filter is_from_elsewhere (Carry from to count) (legal_moves rules board) test
     (legal_listed rules board (Carry from to count) legal) in
@@ -155,7 +188,8 @@ waste_step rules board deals move to_waste found within from_waste legal =
     let at : Mem (record { deals = 0 + deals; last = move }) (steps_along rules found.last 0 board) =
     Mem-along rules found.last 0 board deals move within kept in
     let e : 0 + deals ≡ deals = omega arith in
-    let listed : Mem (record { deals = deals; last = move }) (stock_steps_after rules (most_stock_moves board) 0 [] board) =
+    let listed : Mem (record { deals = deals; last = move })
+    (stock_steps_after rules (most_stock_moves board) 0 [] board) =
     subst (λ (xs : List Step). Mem (record { deals = deals; last = move }) xs) (sym found.is_list)
     (subst (λ (k : ℕ). Mem (record { deals = k; last = move }) (steps_along rules found.last 0 board)) e at) in
     rw to_waste
@@ -167,7 +201,8 @@ free_is_steps : (rules : RuleParts) (board : Board) (step : Step) → first_safe
     → Mem step (free_steps rules board) → Contains (steps rules board) step
 free_is_steps rules board step none h = rw none (Contains-from_Mem step (free_steps rules board) h)
 
-early_step : (rules : RuleParts) (n : ℕ) (board end : Board) → IsTrue (deals_to_waste rules.target) → first_safe rules board ≡ None → Won rules end → (m : ℕ) → m ≤ n + 1 → Early rules board end m
+early_step : (rules : RuleParts) (n : ℕ) (board end : Board) → IsTrue (deals_to_waste rules.target)
+    → first_safe rules board ≡ None → Won rules end → (m : ℕ) → m ≤ n + 1 → Early rules board end m
     → HasWinningStep rules n board
 early_step rules n board end to_waste none won m within early = record {
   step = record { deals = 0; last = Carry early.from early.to early.count };
@@ -181,7 +216,8 @@ drawn_step : (rules : RuleParts) (n : ℕ) (board end : Board) → IsTrue (deals
     → HasWinningStep rules n board
 drawn_step rules n board end to_waste draws none won m within drawn =
     let found : Along rules (most_stock_moves board) 0 [] board = stock_along rules board draws to_waste in
-    let at : (j : ℕ) × (j ≤ found.last) × (after_stock_moves rules j board ≡ after_stock_moves rules drawn.deals board) =
+    let at : (j : ℕ) × (j ≤ found.last)
+    × (after_stock_moves rules j board ≡ after_stock_moves rules drawn.deals board) =
     cut rules board to_waste found drawn.deals in
     record {
       step = record { deals = at.0; last = drawn.move };
@@ -197,7 +233,8 @@ drawn_step rules n board end to_waste draws none won m within drawn =
       };
     }
 
-waste_descent : (rules : RuleParts) (n : ℕ) (board : Board) → IsTrue (deals_to_waste rules.target) → 1 ≤ rules.draw → (Won rules board → ⊥) → first_safe rules board ≡ None → Wins rules (n + 1) board
+waste_descent : (rules : RuleParts) (n : ℕ) (board : Board) → IsTrue (deals_to_waste rules.target) → 1 ≤ rules.draw
+    → (Won rules board → ⊥) → first_safe rules board ≡ None → Wins rules (n + 1) board
     → HasWinningStep rules n board
 waste_descent rules n board to_waste draws open_board none wins =
     elim (begins rules wins.moves board wins.end to_waste wins.line wins.won open_board) [
@@ -207,26 +244,33 @@ waste_descent rules n board to_waste draws open_board none wins =
 
 -- where the stock does not deal to the waste each legal move is a step
 
-plain_step : (rules : RuleParts) (board : Board) (move : Move) → deals_to_waste rules.target ≡ false → Legal rules board move → Mem (record { deals = 0; last = move }) (free_steps rules board)
+plain_step : (rules : RuleParts) (board : Board) (move : Move) → deals_to_waste rules.target ≡ false
+    → Legal rules board move → Mem (record { deals = 0; last = move }) (free_steps rules board)
 plain_step rules board move plain legal =
     rw plain (Mem-steps_from 0 move (legal_moves rules board) (legal_listed rules board move legal))
 
-plain_begins : (rules : RuleParts) (n : ℕ) (moves : List Move) (board end : Board) → deals_to_waste rules.target ≡ false → (Won rules board → ⊥) → first_safe rules board ≡ None
+plain_begins : (rules : RuleParts) (n : ℕ) (moves : List Move) (board end : Board) → deals_to_waste rules.target ≡ false
+    → (Won rules board → ⊥) → first_safe rules board ≡ None
     → Line rules board moves end → Won rules end → length moves ≤ n + 1 → HasWinningStep rules n board
-plain_begins rules n [] board end plain open_board none line won within = absurd (open_board (subst (Won rules) line won))
+plain_begins rules n [] board end plain open_board none line won within = absurd
+    (open_board (subst (Won rules) line won))
 plain_begins rules n (move ∷ moves) board end plain open_board none line won within = record {
   step = record { deals = 0; last = move };
-  listed = free_is_steps rules board (record { deals = 0; last = move }) none (plain_step rules board move plain line.0);
+  listed = free_is_steps rules board (record { deals = 0; last = move }) none
+      (plain_step rules board move plain line.0);
   wins = record { moves = moves; end = end; short = omega arith; line = line.1; won = won };
 }
 
-descent_by_target : (rules : RuleParts) (n : ℕ) (board : Board) (t : Bool) → deals_to_waste rules.target ≡ t → 1 ≤ rules.draw → (Won rules board → ⊥) → first_safe rules board ≡ None → Wins rules (n + 1) board
+descent_by_target : (rules : RuleParts) (n : ℕ) (board : Board) (t : Bool) → deals_to_waste rules.target ≡ t
+    → 1 ≤ rules.draw → (Won rules board → ⊥) → first_safe rules board ≡ None → Wins rules (n + 1) board
     → HasWinningStep rules n board
-descent_by_target rules n board true e draws open_board none wins = waste_descent rules n board e draws open_board none wins
+descent_by_target rules n board true e draws open_board none wins = waste_descent rules n board e draws
+    open_board none wins
 descent_by_target rules n board false e draws open_board none wins =
     plain_begins rules n wins.moves board wins.end e open_board none wins.line wins.won wins.short
 
-pub descent : (rules : RuleParts) (n : ℕ) (board : Board) → 1 ≤ rules.draw → (Won rules board → ⊥) → first_safe rules board ≡ None → Wins rules (n + 1) board
+pub descent : (rules : RuleParts) (n : ℕ) (board : Board) → 1 ≤ rules.draw → (Won rules board → ⊥)
+    → first_safe rules board ≡ None → Wins rules (n + 1) board
     → HasWinningStep rules n board
 descent rules n board draws open_board none wins =
     descent_by_target rules n board (deals_to_waste rules.target) refl draws open_board none wins
@@ -236,7 +280,8 @@ pub cut_run : (rules : RuleParts) (board : Board) (k : ℕ) → 1 ≤ rules.draw
     → IsReached rules board (after_stock_moves rules k board)
 cut_run rules board k draws to_waste =
     let found : Along rules (most_stock_moves board) 0 [] board = stock_along rules board draws to_waste in
-    let at : (j : ℕ) × (j ≤ found.last) × (after_stock_moves rules j board ≡ after_stock_moves rules k board) = cut rules board to_waste found k in
+    let at : (j : ℕ) × (j ≤ found.last) × (after_stock_moves rules j board ≡ after_stock_moves rules k board) =
+    cut rules board to_waste found k in
     record {
       moves = at.0;
       boards = λ i. after_stock_moves rules i board;

@@ -1,5 +1,6 @@
 -- Which elements a list has, by recursion on the list, and lists whose elements are apart.
-use Rattle.std.proofs.Common.{◌≡◌, ◌≢◌, ◌⊎◌, inl, inr, ℕ, zero, suc, ◌<◌, Bool, true, false, List, [], ◌∷◌, ◌++◌, length, map, refl, ap, sym, ◌∙◌, arith, IsTrue, get_or, cond}
+use Rattle.std.proofs.Common.{◌≡◌, ◌≢◌, ◌⊎◌, inl, inr, ℕ, zero, suc, ◌<◌, Bool, true, false, List, [], ◌∷◌, ◌++◌}
+use Rattle.std.proofs.Common.{length, map, refl, ap, sym, ◌∙◌, arith, IsTrue, get_or, cond}
 use Rattle.std.specs.List.{AllPairs, Contains, filter}
 
 -- no two elements are equal
@@ -72,19 +73,22 @@ filter_step test a x xs false e passes rest h = elim h [
   | inr there ↦ rest there
 ]
 
-pub Mem-filter : {A : Type 0} (test : A → Bool) (a : A) (xs : List A) → IsTrue (test a) → Mem a xs → Mem a (filter test xs)
+pub Mem-filter : {A : Type 0} (test : A → Bool) (a : A) (xs : List A) → IsTrue (test a) → Mem a xs
+    → Mem a (filter test xs)
 Mem-filter test a [] passes h = absurd h
 Mem-filter test a (x ∷ xs) passes h = filter_step test a x xs (test x) refl passes (Mem-filter test a xs passes) h
 
 kept_step : {A : Type 0} (test : A → Bool) (a x : A) (xs : List A) (t : Bool) → test x ≡ t
-    → (Mem a (filter test xs) → IsTrue (test a) × Mem a xs) → Mem a (cond t (x ∷ filter test xs) (filter test xs)) → IsTrue (test a) × Mem a (x ∷ xs)
+    → (Mem a (filter test xs) → IsTrue (test a) × Mem a xs) → Mem a (cond t (x ∷ filter test xs) (filter test xs))
+    → IsTrue (test a) × Mem a (x ∷ xs)
 kept_step test a x xs true e rest h = elim h [
   | inl same ↦ (ap test same ∙ e, inl same)
   | inr there ↦ let at : IsTrue (test a) × Mem a xs = rest there in (at.0, inr at.1)
 ]
 kept_step test a x xs false e rest h = let at : IsTrue (test a) × Mem a xs = rest h in (at.0, inr at.1)
 
-pub Mem-from_filter : {A : Type 0} (test : A → Bool) (a : A) (xs : List A) → Mem a (filter test xs) → IsTrue (test a) × Mem a xs
+pub Mem-from_filter : {A : Type 0} (test : A → Bool) (a : A) (xs : List A) → Mem a (filter test xs)
+    → IsTrue (test a) × Mem a xs
 Mem-from_filter test a [] h = absurd h
 Mem-from_filter test a (x ∷ xs) h = kept_step test a x xs (test x) refl (Mem-from_filter test a xs) h
 
@@ -103,7 +107,8 @@ pub AreApart-from_Distinct : {A : Type 0} (xs : List A) → Distinct xs → AreA
 AreApart-from_Distinct [] h i j d less within = absurd (omega arith)
 AreApart-from_Distinct (x ∷ xs) h i zero d less within = absurd (omega arith)
 AreApart-from_Distinct (x ∷ xs) h zero (suc j) d less within = h.0 (get_or xs j d) (Mem-get_or xs j d (omega arith))
-AreApart-from_Distinct (x ∷ xs) h (suc i) (suc j) d less within = AreApart-from_Distinct xs h.1 i j d (omega arith) (omega arith)
+AreApart-from_Distinct (x ∷ xs) h (suc i) (suc j) d less within = AreApart-from_Distinct xs h.1 i j d
+    (omega arith) (omega arith)
 
 pub Distinct-from_AreApart : {A : Type 0} (xs : List A) → AreApart xs → Distinct xs
 Distinct-from_AreApart [] h = tt
@@ -114,7 +119,8 @@ Distinct-from_AreApart (x ∷ xs) h = (
   Distinct-from_AreApart xs (λ i j d less within. h (suc i) (suc j) d (omega arith) (omega arith)),
 )
 
-pub Distinct-append : {A : Type 0} (xs ys : List A) → Distinct xs → Distinct ys → ((a : A) → Mem a xs → Mem a ys → ⊥) → Distinct (xs ++ ys)
+pub Distinct-append : {A : Type 0} (xs ys : List A) → Distinct xs → Distinct ys → ((a : A) → Mem a xs → Mem a ys → ⊥)
+    → Distinct (xs ++ ys)
 Distinct-append [] ys h k apart = k
 Distinct-append (x ∷ xs) ys h k apart = (
   λ y here e. elim (Mem-append y xs ys here) [
@@ -124,7 +130,8 @@ Distinct-append (x ∷ xs) ys h k apart = (
   Distinct-append xs ys h.1 k (λ a left right. apart a (inr left) right),
 )
 
-pub Distinct-map : {A B : Type 0} (f : A → B) (xs : List A) → ((a b : A) → f a ≡ f b → a ≡ b) → Distinct xs → Distinct (map f xs)
+pub Distinct-map : {A B : Type 0} (f : A → B) (xs : List A) → ((a b : A) → f a ≡ f b → a ≡ b) → Distinct xs
+    → Distinct (map f xs)
 Distinct-map f [] apart h = tt
 Distinct-map {A = A} f (x ∷ xs) apart h = (
   λ y here e.

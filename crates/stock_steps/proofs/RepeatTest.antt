@@ -1,5 +1,6 @@
 -- When a board of a run of stock moves comes again, by the lengths of stocks alone.
-use Rattle.std.proofs.Common.{◌≡◌, ◌⊎◌, ◌↔◌, inl, inr, ℕ, zero, suc, ◌+◌, ◌-◌, ◌<◌, ◌≤◌, false, List, [], length, ap, sym, ◌∙◌, subst, arith, IsTrue}
+use Rattle.std.proofs.Common.{◌≡◌, ◌⊎◌, ◌↔◌, inl, inr, ℕ, zero, suc, ◌+◌, ◌-◌, ◌<◌, ◌≤◌, false, List, [], length, ap}
+use Rattle.std.proofs.Common.{sym, ◌∙◌, subst, arith, IsTrue}
 use Rattle.std.proofs.lemmas.List.{nil_from_length}
 use Rattle.card_piles.specs.declared.Card.{Card}
 use Rattle.game_rules.specs.declared.RuleParts.{RuleParts}
@@ -7,35 +8,43 @@ use Rattle.game_rules.specs.Rules.{deals_to_waste, is_unlimited}
 use Rattle.game_rules.specs.Board.{Board}
 use Rattle.game_rules.specs.StockMoves.{IsNextByStock}
 use Rattle.stock_steps.specs.StockSteps.{IsStockRun, StandsBefore, ComesAgain}
-use Rattle.stock_steps.proofs.StockKin.{Kin-trans, size, next_cases, next_kin, kin_size, same_length, dealt_length, redealt_length}
+use Rattle.stock_steps.proofs.StockKin.{Kin-trans, size, next_cases, next_kin, kin_size, same_length}
+use Rattle.stock_steps.proofs.StockKin.{dealt_length, redealt_length}
 use Rattle.stock_steps.proofs.StockRuns.{weight, next_is_lighter}
 use Rattle.stock_steps.proofs.Pigeons.{Alike, run_alike, unlimited_left}
 
 -- where redeals are counted, never
 
-run_weight : (rules : RuleParts) (board : Board) (k : ℕ) (boards : ℕ → Board) → is_unlimited rules.redeals ≡ false → 1 ≤ rules.draw
-    → IsTrue (deals_to_waste rules.target) → IsStockRun rules board k boards → (i n : ℕ) → n + i ≤ k → weight (boards (n + i)) ≤ weight (boards i)
+run_weight : (rules : RuleParts) (board : Board) (k : ℕ) (boards : ℕ → Board)
+    → is_unlimited rules.redeals ≡ false → 1 ≤ rules.draw
+    → IsTrue (deals_to_waste rules.target) → IsStockRun rules board k boards → (i n : ℕ) → n + i ≤ k
+    → weight (boards (n + i)) ≤ weight (boards i)
 run_weight rules board k boards counted draws to_waste run i zero h =
     let e : 0 + i ≡ i = omega arith in
     rw e (omega arith)
 run_weight rules board k boards counted draws to_waste run i (suc n) h =
-    let before : weight (boards (n + i)) ≤ weight (boards i) = run_weight rules board k boards counted draws to_waste run i n (omega arith) in
+    let before : weight (boards (n + i)) ≤ weight (boards i) = run_weight rules board k boards counted draws to_waste
+    run i n (omega arith) in
     let next : IsNextByStock rules (boards (n + i)) (boards (suc (n + i))) = run.next (n + i) (omega arith) in
     let lighter : weight (boards (suc (n + i))) < weight (boards (n + i)) =
     next_is_lighter rules (boards (n + i)) (boards (suc (n + i))) counted draws
-    (next_kin rules (boards (n + i)) (boards (suc (n + i))) to_waste next) (next_cases rules (boards (n + i)) (boards (suc (n + i))) to_waste next) in
+    (next_kin rules (boards (n + i)) (boards (suc (n + i))) to_waste next)
+    (next_cases rules (boards (n + i)) (boards (suc (n + i))) to_waste next) in
     let e : suc n + i ≡ suc (n + i) = omega arith in
     rw e (omega arith)
 
-pub never_again : (rules : RuleParts) (board next : Board) (k : ℕ) (boards : ℕ → Board) → is_unlimited rules.redeals ≡ false → 1 ≤ rules.draw
+pub never_again : (rules : RuleParts) (board next : Board) (k : ℕ) (boards : ℕ → Board)
+    → is_unlimited rules.redeals ≡ false → 1 ≤ rules.draw
     → IsTrue (deals_to_waste rules.target) → IsStockRun rules board k boards → IsNextByStock rules (boards k) next
     → StandsBefore boards k next → ⊥
 never_again rules board next k boards counted draws to_waste run is_next at =
     let n : ℕ = k - at.0 in
     let e : n + at.0 ≡ k = omega (arith, at.1) in
-    let heavy : weight (boards (n + at.0)) ≤ weight (boards at.0) = run_weight rules board k boards counted draws to_waste run at.0 n (omega (arith, at.1)) in
+    let heavy : weight (boards (n + at.0)) ≤ weight (boards at.0) = run_weight rules board k boards counted draws
+    to_waste run at.0 n (omega (arith, at.1)) in
     let lighter : weight next < weight (boards k) =
-    next_is_lighter rules (boards k) next counted draws (next_kin rules (boards k) next to_waste is_next) (next_cases rules (boards k) next to_waste is_next) in
+    next_is_lighter rules (boards k) next counted draws (next_kin rules (boards k) next to_waste is_next)
+    (next_cases rules (boards k) next to_waste is_next) in
     let same : weight (boards at.0) ≡ weight next = ap weight at.2 in
     let last : weight (boards (n + at.0)) ≡ weight (boards k) = ap (λ (m : ℕ). weight (boards m)) e in
     omega arith
@@ -50,7 +59,8 @@ one_before rules a b c d draws to_waste alike is_b is_d same some =
     elim (next_cases rules a b to_waste is_b) [
       | inl dealt ↦ elim (next_cases rules c d to_waste is_d) [
         | inl other ↦
-            same_length a c alike.kin alike.left (omega (arith, dealt_length rules a b dealt, dealt_length rules c d other))
+            same_length a c alike.kin alike.left
+            (omega (arith, dealt_length rules a b dealt, dealt_length rules c d other))
         | inr other ↦
             let turned : (length c.stock ≡ 0) × (length d.stock ≡ length c.waste) = redealt_length rules c d other in
             absurd (omega (arith, dealt_length rules a b dealt, turned.0, turned.1, dealt.some))
@@ -60,25 +70,30 @@ one_before rules a b c d draws to_waste alike is_b is_d same some =
           elim (next_cases rules c d to_waste is_d) [
             | inl other ↦ absurd (omega (arith, dealt_length rules c d other, first.0, first.1, other.some))
             | inr other ↦
-                let turned : (length c.stock ≡ 0) × (length d.stock ≡ length c.waste) = redealt_length rules c d other in
+                let turned : (length c.stock ≡ 0)
+                × (length d.stock ≡ length c.waste) = redealt_length rules c d other in
                 same_length a c alike.kin alike.left (omega (arith, first.0, turned.0))
           ]
     ]
 
-alike_upto : (rules : RuleParts) (board : Board) (k : ℕ) (boards : ℕ → Board) → IsTrue (is_unlimited rules.redeals) → IsTrue (deals_to_waste rules.target)
+alike_upto : (rules : RuleParts) (board : Board) (k : ℕ) (boards : ℕ → Board) → IsTrue (is_unlimited rules.redeals)
+    → IsTrue (deals_to_waste rules.target)
     → IsStockRun rules board k boards → (j : ℕ) → j ≤ k → Alike (boards j) (boards k)
 alike_upto rules board k boards unlimited to_waste run j h =
     let n : ℕ = k - j in
     let e : n + j ≡ k = omega arith in
-    subst (λ (m : ℕ). Alike (boards j) (boards m)) e (run_alike rules board k boards unlimited to_waste run j n (omega arith))
+    subst (λ (m : ℕ). Alike (boards j) (boards m)) e
+    (run_alike rules board k boards unlimited to_waste run j n (omega arith))
 
-alike_next : (rules : RuleParts) (a b c : Board) → IsTrue (is_unlimited rules.redeals) → IsTrue (deals_to_waste rules.target) → Alike a b → IsNextByStock rules b c → Alike a c
+alike_next : (rules : RuleParts) (a b c : Board) → IsTrue (is_unlimited rules.redeals)
+    → IsTrue (deals_to_waste rules.target) → Alike a b → IsNextByStock rules b c → Alike a c
 alike_next rules a b c unlimited to_waste h is_next = record {
   kin = Kin-trans a b c h.kin (next_kin rules b c to_waste is_next);
   left = h.left ∙ sym (unlimited_left rules b c unlimited to_waste is_next);
 }
 
-again_at : (rules : RuleParts) (board next : Board) (k : ℕ) (boards : ℕ → Board) → IsTrue (is_unlimited rules.redeals) → 1 ≤ rules.draw
+again_at : (rules : RuleParts) (board next : Board) (k : ℕ) (boards : ℕ → Board)
+    → IsTrue (is_unlimited rules.redeals) → 1 ≤ rules.draw
     → IsTrue (deals_to_waste rules.target) → IsStockRun rules board k boards → IsNextByStock rules (boards k) next
     → (j : ℕ) → j ≤ k → boards j ≡ next → ComesAgain board boards k next
 again_at rules board next k boards unlimited draws to_waste run is_next zero h same =
@@ -97,7 +112,8 @@ again_at rules board next k boards unlimited draws to_waste run is_next (suc j) 
           absurd (run.apart j k h (omega arith) before)
     ]
 
-pub comes_again : (rules : RuleParts) (board next : Board) (k : ℕ) (boards : ℕ → Board) → IsTrue (is_unlimited rules.redeals) → 1 ≤ rules.draw
+pub comes_again : (rules : RuleParts) (board next : Board) (k : ℕ) (boards : ℕ → Board)
+    → IsTrue (is_unlimited rules.redeals) → 1 ≤ rules.draw
     → IsTrue (deals_to_waste rules.target) → IsStockRun rules board k boards → IsNextByStock rules (boards k) next
     → StandsBefore boards k next ↔ ComesAgain board boards k next
 comes_again rules board next k boards unlimited draws to_waste run is_next = (
@@ -105,7 +121,8 @@ comes_again rules board next k boards unlimited draws to_waste run is_next = (
   λ again. elim again [
     | inl lengths ↦
         let alike : Alike (boards 0) next =
-        alike_next rules (boards 0) (boards k) next unlimited to_waste (alike_upto rules board k boards unlimited to_waste run 0 (omega arith)) is_next in (
+        alike_next rules (boards 0) (boards k) next unlimited to_waste
+        (alike_upto rules board k boards unlimited to_waste run 0 (omega arith)) is_next in (
           0,
           omega arith,
           same_length (boards 0) next alike.kin alike.left
@@ -113,7 +130,8 @@ comes_again rules board next k boards unlimited draws to_waste run is_next = (
         )
     | inr empty ↦
         let alike : Alike (boards empty.1.0) next =
-        alike_next rules (boards empty.1.0) (boards k) next unlimited to_waste (alike_upto rules board k boards unlimited to_waste run empty.1.0 empty.1.1) is_next in (
+        alike_next rules (boards empty.1.0) (boards k) next unlimited to_waste
+        (alike_upto rules board k boards unlimited to_waste run empty.1.0 empty.1.1) is_next in (
           empty.1.0,
           empty.1.1,
           same_length (boards empty.1.0) next alike.kin alike.left

@@ -1,5 +1,7 @@
 -- What a stock move changes: the border between stock and waste, and the redeals left.
-use Rattle.std.proofs.Common.{◌≡◌, ◌⊎◌, inl, inr, ℕ, zero, suc, ◌+◌, ◌-◌, ◌<◌, ◌≤◌, ◌&&◌, ◌||◌, not, List, [], ◌∷◌, ◌++◌, length, reverse, take, drop, refl, ap, sym, ◌∙◌, subst, arith, IsTrue, Some, nat_lt, if◌then◌else◌, length-append, length-take, ◌==◌}
+use Rattle.std.proofs.Common.{◌≡◌, ◌⊎◌, inl, inr, ℕ, zero, suc, ◌+◌, ◌-◌, ◌<◌, ◌≤◌, ◌&&◌, ◌||◌, not, List, [], ◌∷◌}
+use Rattle.std.proofs.Common.{◌++◌, length, reverse, take, drop, refl, ap, sym, ◌∙◌, subst, arith, IsTrue, Some, nat_lt}
+use Rattle.std.proofs.Common.{if◌then◌else◌, length-append, length-take, ◌==◌}
 use Rattle.std.proofs.lemmas.List.{reverse-reverse, length-reverse, take_at, drop_at}
 use Rattle.std.proofs.lemmas.Bool.Decides.{nat_tests}
 use Rattle.card_piles.specs.Cards.{number_of}
@@ -12,7 +14,8 @@ use Rattle.game_rules.specs.Board.{Board, top_part, below_top}
 use Rattle.game_rules.specs.Play.{Legal, is_empty, after}
 use Rattle.game_rules.specs.StockMoves.{is_carry, IsNextByStock, stock_move, after_stock_move, after_stock_moves, queue}
 use Rattle.game_rules.proofs.Limits.{both}
-use Rattle.game_rules.proofs.StockMoves.{with_stock, Dealt, after_deal, stock_move-exact, stock_move_cases, queue-after_stock_moves}
+use Rattle.game_rules.proofs.StockMoves.{with_stock, Dealt, after_deal, stock_move-exact}
+use Rattle.game_rules.proofs.StockMoves.{stock_move_cases, queue-after_stock_moves}
 pub use Rattle.game_rules.proofs.StockMoves.{Redealt, empty_is, some_is, deal_legal, next_cases}
 use Rattle.stock_steps.specs.Steps.{same_cards, same_stock}
 
@@ -41,21 +44,25 @@ pub one_stock_move : (rules : RuleParts) (a : Board) (move : Move) → IsTrue (d
 one_stock_move rules a move to_waste stock legal = (stock_move-exact rules a move to_waste).1 (stock, legal)
 
 -- the next board is the one that the functions compute
-pub next_is : (rules : RuleParts) (a b : Board) → IsTrue (deals_to_waste rules.target) → IsNextByStock rules a b → b ≡ after_stock_move rules a
+pub next_is : (rules : RuleParts) (a b : Board) → IsTrue (deals_to_waste rules.target) → IsNextByStock rules a b
+    → b ≡ after_stock_move rules a
 next_is rules a b to_waste h =
     let e : stock_move rules a ≡ Some h.move = one_stock_move rules a h.move to_waste h.is_stock_move h.legal in
     rw (e, after_stock_move) h.is_after
 
-rest_by : (a b : Board) (stock waste : List Card) (left : ℕ) → b ≡ with_stock a stock waste left → b ≡ with_stock a b.stock b.waste b.redeals_left
+rest_by : (a b : Board) (stock waste : List Card) (left : ℕ) → b ≡ with_stock a stock waste left
+    → b ≡ with_stock a b.stock b.waste b.redeals_left
 rest_by a b stock waste left h = h ∙ ap (λ (x : Board). with_stock a x.stock x.waste x.redeals_left) (sym h)
 
-next_rest : (rules : RuleParts) (a b : Board) → Dealt rules a b ⊎ Redealt rules a b → b ≡ with_stock a b.stock b.waste b.redeals_left
+next_rest : (rules : RuleParts) (a b : Board) → Dealt rules a b ⊎ Redealt rules a b
+    → b ≡ with_stock a b.stock b.waste b.redeals_left
 next_rest rules a b h = elim h [
   | inl dealt ↦ rest_by a b _ _ _ dealt.is_after
   | inr redealt ↦ rest_by a b _ _ _ redealt.is_after
 ]
 
-pub next_kin : (rules : RuleParts) (a b : Board) → IsTrue (deals_to_waste rules.target) → IsNextByStock rules a b → Kin a b
+pub next_kin : (rules : RuleParts) (a b : Board) → IsTrue (deals_to_waste rules.target)
+    → IsNextByStock rules a b → Kin a b
 next_kin rules a b to_waste h = record {
   rest = next_rest rules a b (next_cases rules a b to_waste h);
   queue = sym (ap queue (next_is rules a b to_waste h) ∙ queue-after_stock_moves rules 1 a to_waste);
@@ -70,7 +77,8 @@ kin_step rules a to_waste = elim (stock_move_cases rules a to_waste) [
   | inr next ↦ next_kin rules a (after_stock_move rules a) to_waste next.is_next
 ]
 
-pub kin_after : (rules : RuleParts) (k : ℕ) (a : Board) → IsTrue (deals_to_waste rules.target) → Kin a (after_stock_moves rules k a)
+pub kin_after : (rules : RuleParts) (k : ℕ) (a : Board) → IsTrue (deals_to_waste rules.target)
+    → Kin a (after_stock_moves rules k a)
 kin_after rules zero a to_waste = Kin-refl a
 kin_after rules (suc k) a to_waste =
     Kin-trans a (after_stock_move rules a) (after_stock_moves rules k (after_stock_move rules a))
@@ -101,7 +109,8 @@ pub dealt_length : (rules : RuleParts) (a b : Board) → Dealt rules a b → len
 dealt_length rules a b h =
     omega (arith, ap (λ (x : Board). length x.stock) h.is_after, length-take (length a.stock - rules.draw) a.stock)
 
-pub redealt_length : (rules : RuleParts) (a b : Board) → Redealt rules a b → (length a.stock ≡ 0) × (length b.stock ≡ length a.waste)
+pub redealt_length : (rules : RuleParts) (a b : Board) → Redealt rules a b → (length a.stock ≡ 0)
+    × (length b.stock ≡ length a.waste)
 redealt_length rules a b h =
     (ap length h.none, ap (λ (x : Board). length x.stock) h.is_after ∙ length-reverse a.waste)
 
@@ -146,7 +155,8 @@ same_from_test a b h = grind (arith, nat_tests)
 pub same_length : (a b : Board) → Kin a b → a.redeals_left ≡ b.redeals_left → length a.stock ≡ length b.stock → a ≡ b
 same_length a b kin left lengths =
     let stock : a.stock ≡ b.stock = front_same a.stock b.stock (reverse a.waste) (reverse b.waste) lengths kin.queue in
-    let turned_waste : reverse a.waste ≡ reverse b.waste = back_same a.stock b.stock (reverse a.waste) (reverse b.waste) lengths kin.queue in
+    let turned_waste : reverse a.waste ≡ reverse b.waste = back_same a.stock b.stock (reverse a.waste)
+    (reverse b.waste) lengths kin.queue in
     let waste : a.waste ≡ b.waste = sym (reverse-reverse a.waste) ∙ ap reverse turned_waste ∙ reverse-reverse b.waste in
     ap (λ (s : List Card). with_stock a s a.waste a.redeals_left) stock
     ∙ ap (λ (w : List Card). with_stock a b.stock w a.redeals_left) waste
@@ -155,6 +165,8 @@ same_length a b kin left lengths =
 
 pub kin_same : (a b : Board) → Kin a b → IsTrue (same_stock a b) → a ≡ b
 kin_same a b kin h =
-    let redeals = both (same_cards a.stock b.stock && same_cards a.waste b.waste) (a.redeals_left == b.redeals_left) h in
+    let redeals = both (same_cards a.stock b.stock && same_cards a.waste b.waste)
+    (a.redeals_left == b.redeals_left) h in
     let cards = both (same_cards a.stock b.stock) (same_cards a.waste b.waste) redeals.0 in
-    same_length a b kin (same_from_test a.redeals_left b.redeals_left redeals.1) (same_cards_length a.stock b.stock cards.0)
+    same_length a b kin (same_from_test a.redeals_left b.redeals_left redeals.1)
+    (same_cards_length a.stock b.stock cards.0)

@@ -1,5 +1,6 @@
 -- The laws on stock moves and on the steps of a search, from playable rules and boards that belong to them.
-use Rattle.std.proofs.Common.{◌≡◌, ℕ, ◌+◌, Bool, true, false, not, refl, IsTrue, List, [], ◌∷◌, length, arith, Some, None}
+use Rattle.std.proofs.Common.{◌≡◌, ℕ, ◌+◌, Bool, true, false, not, refl, IsTrue, List, [], ◌∷◌, length, arith}
+use Rattle.std.proofs.Common.{Some, None}
 use Rattle.std.specs.Prelude.{Option}
 use Rattle.game_rules.specs.declared.RuleParts.{RuleParts}
 use Rattle.game_rules.specs.declared.Move.{Move}
@@ -19,7 +20,8 @@ use Rattle.safe_moves.specs.Safe.{first_safe, is_safe}
 use Rattle.safe_moves.proofs.FirstSafe.{find-passes}
 use Rattle.safe_moves.proofs.SafeExchange.{exchange}
 use Rattle.stock_steps.specs.declared.Step.{Step}
-use Rattle.stock_steps.specs.Steps.{CanAllBeMade, CanBeMade, after_step, after_steps, expand, expand_trail, is_from_elsewhere, is_from_waste}
+use Rattle.stock_steps.specs.Steps.{CanAllBeMade, CanBeMade, after_step, after_steps, expand, expand_trail}
+use Rattle.stock_steps.specs.Steps.{is_from_elsewhere, is_from_waste}
 use Rattle.stock_steps.specs.StockSteps.{Commute, HasWinningStep}
 use Rattle.stock_steps.proofs.StockCommutes.{carry_first}
 use Rattle.stock_steps.proofs.StepLines.{playable_draw, step_line}
@@ -34,17 +36,20 @@ pub may_change : (rules : RuleParts) (board : Board) (stock carry : Move) → Is
     → IsTrue (not (is_carry stock)) → IsTrue (is_from_elsewhere carry)
     → Legal rules board stock → Legal rules (after rules board stock) carry → Commute rules board stock carry
 may_change rules board stock (Carry from to count) to_waste is_stock is_other stock_legal legal =
-    carry_first rules board stock from to count to_waste is_stock stock_legal (not_true (is_from_waste (Carry from to count)) is_other) legal
+    carry_first rules board stock from to count to_waste is_stock stock_legal
+    (not_true (is_from_waste (Carry from to count)) is_other) legal
 may_change rules board stock Deal to_waste is_stock is_other stock_legal legal = cc
 may_change rules board stock Redeal to_waste is_stock is_other stock_legal legal = cc
 
 pub wins_by_step : (rules : RuleParts) (n : ℕ) (board : Board) (step : Step) → CanBeMade rules board step
     → Wins rules n (after_step rules board step) → Wins rules (length (expand rules board step) + n) board
 wins_by_step rules n board step can wins =
-    wins-after rules n board (after_step rules board step) (expand rules board step) (step_line rules board step can) wins
+    wins-after rules n board (after_step rules board step) (expand rules board step)
+    (step_line rules board step can) wins
 
 -- a board with a safe move wins by it, and one without by its free steps
-descent_by : (rules : RuleParts) (n : ℕ) (board : Board) (forced : Option Move) → first_safe rules board ≡ forced → IsPlayable rules
+descent_by : (rules : RuleParts) (n : ℕ) (board : Board) (forced : Option Move) → first_safe rules board ≡ forced
+    → IsPlayable rules
     → Belongs rules board → (Won rules board → ⊥) → Wins rules (n + 1) board → HasWinningStep rules n board
 descent_by rules n board None e playable belongs open_board wins =
     descent rules n board (playable_draw rules playable) open_board e wins

@@ -25,9 +25,11 @@ stocked stock waste redeals_left heights =
 abbrev home : ℕ → ℕ → Step
 home deals f = record { deals = deals; last = Carry Waste (Foundation f) 1 }
 
--- ace, three and two of clubs under one redeal: the ace is on top after three deals, and after the redeal and three more
+-- ace, three and two of clubs under one redeal: the ace is on top after three deals, and after the redeal and three
+-- more
 abbrev three_clubs : ℕ → Board
-three_clubs redeals_left = stocked (card Clubs 1 ∷ card Clubs 3 ∷ card Clubs 2 ∷ []) [] redeals_left (0 ∷ 3 ∷ 3 ∷ 3 ∷ [])
+three_clubs redeals_left = stocked (card Clubs 1 ∷ card Clubs 3 ∷ card Clubs 2 ∷ []) [] redeals_left
+    (0 ∷ 3 ∷ 3 ∷ 3 ∷ [])
 
 pub one_redeal-steps : steps (stock_rules 3 1 (Times 1)) (three_clubs 1) ≡ home 3 0 ∷ home 7 0 ∷ []
 one_redeal-steps = refl

@@ -1,5 +1,6 @@
 -- The steps of a board in their order, and the single moves of a step.
-use Rattle.std.specs.Prelude.{ℕ, zero, suc, ◌+◌, ◌*◌, Bool, true, false, ◌==◌, ◌&&◌, not, List, [], ◌∷◌, ◌++◌, map, length, Option, Some, None, if◌then◌else◌, ⊤}
+use Rattle.std.specs.Prelude.{ℕ, zero, suc, ◌+◌, ◌*◌, Bool, true, false, ◌==◌, ◌&&◌, not, List, [], ◌∷◌, ◌++◌, map}
+use Rattle.std.specs.Prelude.{length, Option, Some, None, if◌then◌else◌, ⊤}
 use Rattle.std.specs.List.{filter, list_any}
 use Rattle.std.specs.Option.{option_to_list}
 use Rattle.card_piles.specs.declared.Card.{Card}
@@ -21,7 +22,8 @@ use Rattle.stock_steps.specs.declared.Step.{Step}
 -- so many stock moves, each the next one of the board where it is made
 abbrev pub stock_moves : RuleParts → ℕ → Board → List Move
 stock_moves rules zero board = []
-stock_moves rules (suc k) board = option_to_list (stock_move rules board) ++ stock_moves rules k (after_stock_move rules board)
+stock_moves rules (suc k) board = option_to_list (stock_move rules board)
+    ++ stock_moves rules k (after_stock_move rules board)
 
 -- the single moves of a step: its stock moves, and then its last move
 abbrev pub expand : RuleParts → Board → Step → List Move
@@ -39,7 +41,8 @@ pub record CanBeMade (rules : RuleParts) (board : Board) (step : Step) : Type 0 
 -- the single moves of a list of steps, each step's on the board where it is made, one after the other
 abbrev pub expand_trail : RuleParts → Board → List Step → List Move
 expand_trail rules board [] = []
-expand_trail rules board (step ∷ steps) = expand rules board step ++ expand_trail rules (after_step rules board step) steps
+expand_trail rules board (step ∷ steps) = expand rules board step
+    ++ expand_trail rules (after_step rules board step) steps
 
 -- the board after a list of steps
 abbrev pub after_steps : RuleParts → Board → List Step → Board
@@ -49,7 +52,8 @@ after_steps rules board (step ∷ steps) = after_steps rules (after_step rules b
 -- each step can be made from the board to which the steps before it lead
 abbrev pub CanAllBeMade : RuleParts → Board → List Step → Type 0
 CanAllBeMade rules board [] = ⊤
-CanAllBeMade rules board (step ∷ steps) = CanBeMade rules board step × CanAllBeMade rules (after_step rules board step) steps
+CanAllBeMade rules board (step ∷ steps) = CanBeMade rules board step
+    × CanAllBeMade rules (after_step rules board step) steps
 
 -- The steps of a board.
 

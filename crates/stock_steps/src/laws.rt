@@ -11,8 +11,10 @@ ghost use Rattle.game_rules.specs.Play.{Legal, after};
 ghost use Rattle.game_rules.specs.Winning.{Line, Won, Wins};
 ghost use Rattle.game_rules.specs.StockMoves.{IsNextByStock, after_stock_moves, is_carry};
 ghost use Rattle.stock_steps.specs.declared.Step.{Step};
-ghost use Rattle.stock_steps.specs.Steps.{CanAllBeMade, CanBeMade, after_step, after_steps, expand, expand_trail, is_from_elsewhere, steps, stock_steps};
-ghost use Rattle.stock_steps.specs.StockSteps.{ComesAgain, Commute, HasWinningStep, IsAlongRun, IsReached, IsStockRun, StandsBefore, StockStep};
+ghost use Rattle.stock_steps.specs.Steps.{CanAllBeMade, CanBeMade, after_step, after_steps, expand, expand_trail};
+ghost use Rattle.stock_steps.specs.Steps.{is_from_elsewhere, steps, stock_steps};
+ghost use Rattle.stock_steps.specs.StockSteps.{ComesAgain, Commute, HasWinningStep, IsAlongRun, IsReached, IsStockRun};
+ghost use Rattle.stock_steps.specs.StockSteps.{StandsBefore, StockStep};
 
 /// The list of stock steps holds exactly these, each once, by the number of stock moves and then in
 /// the order of moves.

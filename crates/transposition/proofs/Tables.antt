@@ -1,12 +1,15 @@
 -- what each call does to the table
-use Rattle.std.proofs.Common.{◌≡◌, ℕ, ◌<◌, ◌≤◌, ◌^◌, Bool, true, false, List, [], ◌∷◌, ◌++◌, length, get_or, take, sym, ◌∙◌, subst, arith, Contains, inl, inr}
+use Rattle.std.proofs.Common.{◌≡◌, ℕ, ◌<◌, ◌≤◌, ◌^◌, Bool, true, false, List, [], ◌∷◌, ◌++◌, length, get_or, take, sym}
+use Rattle.std.proofs.Common.{◌∙◌, subst, arith, Contains, inl, inr}
 use Rattle.std.proofs.lemmas.Bool.{cases_eq, cases_lt}
 use Rattle.std.proofs.lemmas.List.{length-append, get_or_append_left, get_or_push, length_push, get_or_past}
-use Rattle.std.proofs.lemmas.List.Elements.{Contains-get_or, Contains-append_cases, Contains-append_left, Contains-append_right}
+use Rattle.std.proofs.lemmas.List.Elements.{Contains-get_or, Contains-append_cases}
+use Rattle.std.proofs.lemmas.List.Elements.{Contains-append_left, Contains-append_right}
 use Rattle.transposition.specs.Table.{IsTable, IsNode, flag_at, keys_at, spare_of}
 use Rattle.transposition.proofs.Keys.{decide, length-keys}
 
-pub renewed_sub : (s : ℕ) (before after : List ℕ) (x : ℕ) → Contains (s ∷ (before ++ after)) x → Contains (before ++ s ∷ after) x
+pub renewed_sub : (s : ℕ) (before after : List ℕ) (x : ℕ) → Contains (s ∷ (before ++ after)) x
+    → Contains (before ++ s ∷ after) x
 renewed_sub s before after x c = elim (Contains-append_cases (s ∷ []) (before ++ after) x c) [
   | inl a ↦ Contains-append_right before (s ∷ after) x (Contains-append_left (s ∷ []) after x a)
   | inr b ↦ elim (Contains-append_cases before after x b) [
@@ -16,16 +19,20 @@ renewed_sub s before after x c = elim (Contains-append_cases (s ∷ []) (before 
 ]
 
 pub length-renewed : (s : ℕ) (before after : List ℕ) → length (s ∷ (before ++ after)) ≡ length (before ++ s ∷ after)
-length-renewed s before after = let a = length-append before after in let b = length-append before (s ∷ after) in omega arith
+length-renewed s before after = let a = length-append before after in
+    let b = length-append before (s ∷ after) in omega arith
 
-module _ {K : Type 0} (hash : K → ℕ) (keys : List K) (hashes order : List ℕ) (nodes : ℕ) (flags : List Bool) (path : List ℕ) (depth capacity : ℕ)
+module _ {K : Type 0} (hash : K → ℕ) (keys : List K) (hashes order : List ℕ) (nodes : ℕ) (flags : List Bool)
+    (path : List ℕ) (depth capacity : ℕ)
     (table : IsTable hash keys hashes order nodes flags path depth capacity) where
   -- the finished nodes in another order
-  pub reordered : (order' : List ℕ) → length order' ≡ length order → ((s : ℕ) → Contains order' s → Contains order s) → IsTable hash keys hashes order' nodes flags path depth capacity
+  pub reordered : (order' : List ℕ) → length order' ≡ length order → ((s : ℕ) → Contains order' s → Contains order s)
+      → IsTable hash keys hashes order' nodes flags path depth capacity
   reordered order' e sub = record {
     hashed = table.hashed;
     same = table.same;
-    in_order = λ k d lt. let c = sub (get_or order' k d) (Contains-get_or order' k d lt) in subst (IsNode (length keys)) c.2 (table.in_order c.0 (get_or order' k d) c.1);
+    in_order = λ k d lt. let c = sub (get_or order' k d) (Contains-get_or order' k d lt) in
+        subst (IsNode (length keys)) c.2 (table.in_order c.0 (get_or order' k d) c.1);
     in_path = table.in_path;
     apart = λ k d lt c. table.apart k d lt (sub (get_or path k d) c);
     once = table.once;
@@ -50,7 +57,9 @@ module _ {K : Type 0} (hash : K → ℕ) (keys : List K) (hashes order : List �
   is_live s h = elim (decide (take depth path) s) [ inl c ↦ c | inr out ↦ absurd (let e = table.idle s out in cc) ]
 
   -- more nodes and more flags
-  pub widened : (nodes' : ℕ) (flags' : List Bool) → nodes ≤ nodes' → nodes' < 2 ^ 32 → length flags ≤ length flags' → ((s : ℕ) → flag_at flags' s ≡ flag_at flags s) → IsTable hash keys hashes order nodes' flags' path depth capacity
+  pub widened : (nodes' : ℕ) (flags' : List Bool)
+      → nodes ≤ nodes' → nodes' < 2 ^ 32 → length flags ≤ length flags' → ((s : ℕ) → flag_at flags' s ≡ flag_at flags s)
+      → IsTable hash keys hashes order nodes' flags' path depth capacity
   widened nodes' flags' le few longer same = record {
     hashed = table.hashed;
     same = table.same;
@@ -75,15 +84,20 @@ flags_push flags s = elim (cases_lt s (length flags)) [
   | inl lt ↦ get_or_append_left flags (false ∷ []) false s lt
   | inr ge ↦ elim (cases_eq s (length flags)) [
     | inl e ↦ get_or_push flags false false s (sym e) ∙ sym (get_or_past flags s false ge)
-    | inr ne ↦ get_or_past (flags ++ false ∷ []) s false (let l = length_push flags false in omega arith) ∙ sym (get_or_past flags s false ge)
+    | inr ne ↦ get_or_past (flags ++ false ∷ []) s false (let l = length_push flags false in omega arith)
+        ∙ sym (get_or_past flags s false ge)
   ]
 ]
 
 -- a table with the same keys, and more nodes and flags
-pub kept : {K : Type 0} (hash : K → ℕ) (keys keys' : List K) (hashes hashes' order order' : List ℕ) (nodes nodes' : ℕ) (flags flags' : List Bool) (path path' : List ℕ) (depth capacity : ℕ) →
-    IsTable hash keys hashes order nodes flags path depth capacity → keys' ≡ keys → hashes' ≡ hashes → order' ≡ order → path' ≡ path → nodes ≤ nodes' → nodes' < 2 ^ 32 → length flags ≤ length flags' → ((s : ℕ) → flag_at flags' s ≡ flag_at flags s) →
+pub kept : {K : Type 0} (hash : K → ℕ) (keys keys' : List K) (hashes hashes' order order' : List ℕ) (nodes nodes' : ℕ)
+    (flags flags' : List Bool) (path path' : List ℕ) (depth capacity : ℕ) →
+    IsTable hash keys hashes order nodes flags path depth capacity → keys' ≡ keys → hashes' ≡ hashes
+    → order' ≡ order → path' ≡ path → nodes ≤ nodes' → nodes' < 2 ^ 32 → length flags ≤ length flags'
+    → ((s : ℕ) → flag_at flags' s ≡ flag_at flags s) →
     IsTable hash keys' hashes' order' nodes' flags' path' depth capacity
-kept hash keys keys' hashes hashes' order order' nodes nodes' flags flags' path path' depth capacity table ek eh eo el le few longer same =
+kept hash keys keys' hashes hashes' order order' nodes nodes' flags flags' path path' depth capacity table ek eh eo el
+    le few longer same =
     subst (λ ks. IsTable hash ks hashes' order' nodes' flags' path' depth capacity) (sym ek)
     (subst (λ hs. IsTable hash keys hs order' nodes' flags' path' depth capacity) (sym eh)
     (subst (λ os. IsTable hash keys hashes os nodes' flags' path' depth capacity) (sym eo)
@@ -94,10 +108,12 @@ pub spare_free : (free keys path chains flags nodes : ℕ) → 1 ≤ free → 1 
 unfolding spare_of
 spare_free free keys path chains flags nodes h = omega arith
 
-pub spare_new : (free keys path chains flags nodes : ℕ) → 1 ≤ keys → 1 ≤ path → 1 ≤ chains → 1 ≤ flags → 1 ≤ nodes → 1 ≤ spare_of free keys path chains flags nodes
+pub spare_new : (free keys path chains flags nodes : ℕ) → 1 ≤ keys → 1 ≤ path → 1 ≤ chains → 1 ≤ flags → 1 ≤ nodes
+    → 1 ≤ spare_of free keys path chains flags nodes
 unfolding spare_of
 spare_new free keys path chains flags nodes a b c d e = omega arith
 
-pub spare_parts : (free keys path chains flags nodes : ℕ) → 1 ≤ spare_of free keys path chains flags nodes → free ≡ 0 → (1 ≤ keys) × (1 ≤ path) × (1 ≤ chains) × (1 ≤ flags) × (1 ≤ nodes)
+pub spare_parts : (free keys path chains flags nodes : ℕ) → 1 ≤ spare_of free keys path chains flags nodes → free ≡ 0
+    → (1 ≤ keys) × (1 ≤ path) × (1 ≤ chains) × (1 ≤ flags) × (1 ≤ nodes)
 unfolding spare_of
 spare_parts free keys path chains flags nodes h e = (omega arith, omega arith, omega arith, omega arith, omega arith)

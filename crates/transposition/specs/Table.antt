@@ -1,5 +1,6 @@
 -- The one table of a linked memo. A node is one more than the place of its key.
-use Rattle.std.specs.Prelude.{◌≡◌, ◌≢◌, ℕ, ◌+◌, ◌-◌, ◌<◌, ◌≤◌, ◌^◌, ◌%◌, Bool, true, false, List, length, take, drop, slice_index, slice_index_or, min}
+use Rattle.std.specs.Prelude.{◌≡◌, ◌≢◌, ℕ, ◌+◌, ◌-◌, ◌<◌, ◌≤◌, ◌^◌, ◌%◌, Bool, true, false, List, length, take, drop}
+use Rattle.std.specs.Prelude.{slice_index, slice_index_or, min}
 use Rattle.std.specs.List.{All, AllPairs, Contains, flat_map, fold}
 use Rattle.std.specs.Hash.FoldHasher as folding
 use Rattle.std.specs.Hash.BuildHasherDefault.{initial_hasher}
@@ -27,7 +28,8 @@ abbrev pub IsNode : ℕ → ℕ → Type 0
 IsNode n node = (0 < node) × (node ≤ n)
 
 -- what holds of the table: the live nodes are the first `depth` of the path, the free ones are the others
-pub record IsTable {K : Type 0} (hash : K → ℕ) (keys : List K) (hashes : List ℕ) (order : List ℕ) (nodes : ℕ) (flags : List Bool) (path : List ℕ) (depth capacity : ℕ) : Type 0 where
+pub record IsTable {K : Type 0} (hash : K → ℕ) (keys : List K) (hashes : List ℕ) (order : List ℕ) (nodes : ℕ)
+    (flags : List Bool) (path : List ℕ) (depth capacity : ℕ) : Type 0 where
   pub hashed : (k : ℕ) (d : K) → k < length keys → slice_index hashes k ≡ hash (slice_index_or keys k d)
   pub same : length hashes ≡ length keys
   pub in_order : All (IsNode (length keys)) order

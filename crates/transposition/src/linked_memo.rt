@@ -1,6 +1,8 @@
 //! A memo in one table, whose slots are linked by index.
 
-ghost use Rattle.std.specs.Prelude.{◌≡◌, ◌≢◌, ◌+◌, ◌-◌, ◌<◌, ◌≤◌, ◌^◌, ◌⊎◌, true, false, [], ◌++◌, ◌∷◌, length, take, slice_index, slice_index_or, IfOk, IsOk, OnOk, OnErr, ℕ, Contains, vec_capacity, vec_len};
+ghost use Rattle.std.specs.Prelude.{◌≡◌, ◌≢◌, ◌+◌, ◌-◌, ◌<◌, ◌≤◌, ◌^◌, ◌⊎◌, true, false, [], ◌++◌, ◌∷◌, length, take};
+ghost use Rattle.std.specs.Prelude.{slice_index, slice_index_or, IfOk, IsOk, OnOk, OnErr, ℕ, Contains};
+ghost use Rattle.std.specs.Prelude.{vec_capacity, vec_len};
 ghost use Rattle.transposition.specs.Memo.{HoldsEachKeyOnce, LeavesLast};
 ghost use Rattle.transposition.specs.Table.{hash32, IsTable, flag_at, keys_at, spare_of};
 
@@ -23,7 +25,8 @@ pub struct LinkedMemo<K: Eq + Hash> {
     depth: usize,
     capacity: usize,
     hasher: BuildHasherDefault<FoldHasher>,
-    ghost table: { IsTable (hash32 K.hash_input hasher) keys.items chains.hashes order.order order.nodes flags.items path.items depth capacity },
+    ghost table: { IsTable (hash32 K.hash_input hasher) keys.items chains.hashes order.order
+        order.nodes flags.items path.items depth capacity },
     ghost once: { HoldsEachKeyOnce K.eq (keys_at keys.items (take depth path.items)) (keys_at keys.items order.order) },
 }
 
@@ -51,7 +54,10 @@ fn find<K: Eq>(
     ensures within { result ≤ length keys.now.items }
     ensures equal { 0 < result → (d : K) → K.eq key.now (slice_index_or keys.now.items (result - 1) d) ≡ true }
     ensures kept { 0 < result → Contains order.now.order result ⊎ (flag_at flags.now.items result ≡ true) }
-    ensures none { result ≡ 0 → (j : ℕ) → j < length keys.now.items → slice_index chains.now.hashes j ≡ hash → (d : K) → K.eq key.now (slice_index_or keys.now.items j d) ≡ true → (Contains order.now.order (j + 1) → ⊥) × (flag_at flags.now.items (j + 1) ≡ false) }
+    ensures none { result ≡ 0 → (j : ℕ) → j < length keys.now.items
+        → slice_index chains.now.hashes j ≡ hash
+        → (d : K) → K.eq key.now (slice_index_or keys.now.items j d) ≡ true
+        → (Contains order.now.order (j + 1) → ⊥) × (flag_at flags.now.items (j + 1) ≡ false) }
 {
     let mut node = chains.last_with(hash);
     while node != 0 {
@@ -128,7 +134,10 @@ impl<K: Eq + Hash + Drop> Memo<K> for LinkedMemo<K> {
 
     ghost capacity = { λ m. m.capacity };
 
-    ghost spare = { λ m. spare_of (length m.path.items - m.depth) (vec_capacity m.keys - vec_len m.keys) (vec_capacity m.path - vec_len m.path) m.chains.room (length m.flags.items - 1 - length m.keys.items) (m.order.nodes - 1 - length m.keys.items) };
+    ghost spare = { λ m. spare_of (length m.path.items - m.depth)
+        (vec_capacity m.keys - vec_len m.keys) (vec_capacity m.path - vec_len m.path) m.chains.room
+        (length m.flags.items - 1 - length m.keys.items)
+        (m.order.nodes - 1 - length m.keys.items) };
 
     fn look(&mut self, key: &K) -> Known {
         let hash = hash_of(&self.hasher, key);
@@ -193,9 +202,16 @@ impl<K: Eq + Hash + Drop> Memo<K> for LinkedMemo<K> {
     fn leave(&mut self) -> Result<(), NoMemory>
         requires { keys_at self.old.keys.items (take self.old.depth self.old.path.items) ≢ [] }
         ensures always { IsOk result }
-        ensures only_finished_go { OnOk result (LeavesLast self.old.capacity (keys_at self.old.keys.items (take self.old.depth self.old.path.items)) (keys_at self.old.keys.items self.old.order.order) (keys_at self.new.keys.items (take self.new.depth self.new.path.items)) (keys_at self.new.keys.items self.new.order.order)) }
-        ensures live { OnErr result (keys_at self.new.keys.items (take self.new.depth self.new.path.items) ≡ keys_at self.old.keys.items (take self.old.depth self.old.path.items)) }
-        ensures finished { OnErr result (keys_at self.new.keys.items self.new.order.order ≡ keys_at self.old.keys.items self.old.order.order) }
+        ensures only_finished_go { OnOk result (LeavesLast self.old.capacity
+            (keys_at self.old.keys.items (take self.old.depth self.old.path.items))
+            (keys_at self.old.keys.items self.old.order.order)
+            (keys_at self.new.keys.items (take self.new.depth self.new.path.items))
+            (keys_at self.new.keys.items self.new.order.order)) }
+        ensures live { OnErr result
+            (keys_at self.new.keys.items (take self.new.depth self.new.path.items)
+            ≡ keys_at self.old.keys.items (take self.old.depth self.old.path.items)) }
+        ensures finished { OnErr result (keys_at self.new.keys.items self.new.order.order
+            ≡ keys_at self.old.keys.items self.old.order.order) }
         ensures capacity { self.new.capacity ≡ self.old.capacity }
     {
         let depth = self.depth - 1;

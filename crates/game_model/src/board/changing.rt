@@ -23,7 +23,8 @@ pub fn face_down_left(face_down: u8, left: usize) -> u8
 
 impl Pile {
     fn put(&mut self, cards: &[Card]) -> Result<(), NoMemory>
-        ensures ok { OnOk result (self.new ≡ record { cards = self.old.cards ++ cards.now; face_down = self.old.face_down }) }
+        ensures ok { OnOk result
+            (self.new ≡ record { cards = self.old.cards ++ cards.now; face_down = self.old.face_down }) }
         ensures err { OnErr result (self.new ≡ self.old) }
     {
         self.cards.extend_from_slice(cards)?;

@@ -37,7 +37,8 @@ fn deal_each(piles: &mut [Pile], cards: &[Card]) -> Result<(), AllocError>
 
 impl Pile {
     fn deal(&mut self, card: Card) -> Result<(), AllocError>
-        ensures ok { OnOk result (self.new ≡ record { cards = self.old.cards ++ card ∷ []; face_down = self.old.face_down }) }
+        ensures ok { OnOk result
+            (self.new ≡ record { cards = self.old.cards ++ card ∷ []; face_down = self.old.face_down }) }
         ensures err { OnErr result (self.new ≡ self.old) }
     {
         self.cards.push(card)?;
@@ -53,7 +54,10 @@ impl Pile {
 
 impl Board {
     fn deal_to_waste(&mut self, draw: u8) -> Result<(), NoMemory>
-        ensures ok { OnOk result (self.new ≡ record self.old { stock = below_top draw self.old.stock; waste = self.old.waste ++ reverse (top_part draw self.old.stock) }) }
+        ensures ok { OnOk result (self.new ≡ record self.old {
+          stock = below_top draw self.old.stock;
+          waste = self.old.waste ++ reverse (top_part draw self.old.stock);
+        }) }
         ensures err { OnErr result (self.new ≡ self.old) }
     {
         let left = self.stock.len().saturating_sub(usize::from(draw));
@@ -65,7 +69,10 @@ impl Board {
     }
 
     fn deal_to_tableau(&mut self) -> Result<(), NoMemory>
-        ensures ok { OnOk result (self.new ≡ record self.old { stock = below_top (length self.old.piles) self.old.stock; piles = dealt_each (reverse (top_part (length self.old.piles) self.old.stock)) self.old.piles }) }
+        ensures ok { OnOk result (self.new ≡ record self.old {
+          stock = below_top (length self.old.piles) self.old.stock;
+          piles = dealt_each (reverse (top_part (length self.old.piles) self.old.stock)) self.old.piles;
+        }) }
         ensures err { OnErr result (self.new ≡ self.old) }
     {
         let left = self.stock.len().saturating_sub(self.piles.len());
@@ -75,7 +82,10 @@ impl Board {
     }
 
     fn deal_to_hole(&mut self) -> Result<(), NoMemory>
-        ensures ok { OnOk result (self.new ≡ record self.old { stock = below_top 1 self.old.stock; hole = self.old.hole ++ top_part 1 self.old.stock }) }
+        ensures ok { OnOk result (self.new ≡ record self.old {
+          stock = below_top 1 self.old.stock;
+          hole = self.old.hole ++ top_part 1 self.old.stock;
+        }) }
         ensures err { OnErr result (self.new ≡ self.old) }
     {
         let left = self.stock.len().saturating_sub(1);

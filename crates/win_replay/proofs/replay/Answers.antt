@@ -4,12 +4,14 @@ use Rattle.win_replay.proofs.replay.Goals as goal
 
 pub returns-in-Err-NotLegal : goal.returns-in-Err-NotLegal
 returns-in-Err-NotLegal c = record {
-  replayed = stopped_at _ _ _ c.loop-at.at _ _ c.loop-at-test.true c.loop-at.invariant (c.play.ensures.not_legal.0 (c.in-Err-NotLegal.is ∙ ap Err c.in-Err-NotLegal.field-0-is));
+  replayed = stopped_at _ _ _ c.loop-at.at _ _ c.loop-at-test.true c.loop-at.invariant
+      (c.play.ensures.not_legal.0 (c.in-Err-NotLegal.is ∙ ap Err c.in-Err-NotLegal.field-0-is));
 }
 
 pub loop-at-preserved : goal.loop-at-preserved
 loop-at-preserved c =
-    played_more _ _ _ c.loop-at.at _ _ _ c.loop-at-test.true c.loop-at.invariant c.in-Ok.ensures.legal c.in-Ok.ensures.moved c.play.ensures.belongs
+    played_more _ _ _ c.loop-at.at _ _ _ c.loop-at-test.true c.loop-at.invariant c.in-Ok.ensures.legal
+    c.in-Ok.ensures.moved c.play.ensures.belongs
 
 pub returns-then-is_won : goal.returns-then-is_won
 returns-then-is_won c = record {

@@ -8,6 +8,7 @@ pub loop-r-preserved : goal.loop-r-preserved
 loop-r-preserved c =
     let ranks = c.args.rules.now.max_rank in
     let slots = c.as_slice.ensures.value ∙ c.in_ok-slots.ensures in
-    rows-more c.args.rules.now c.args.board.now c.loop-r.r c.loop-r.list.items c.push.new.self.items c.in_ok-entries_value.field-0 c.row.result.now
+    rows-more c.args.rules.now c.args.board.now c.loop-r.r c.loop-r.list.items c.push.new.self.items
+    c.in_ok-entries_value.field-0 c.row.result.now
     c.loop-r.invariant c.in_ok-push.ensures.items c.in_ok-entries_value.ensures
     (c.row.ensures ∙ ap (λ (xs : List (Option Card)). take ranks (drop (c.loop-r.r * ranks) xs)) slots)

@@ -14,7 +14,8 @@ returns-then-not-is_row_in_order g c =
     let in_order : List (Option Card) → Bool = λ row. is_in_sequence (take (c.args.rules.now.max_rank - 1) row) in
     let p : ℕ → Bool = λ row. in_order (row_at c.args.rules.now board row) in
     let fails : p c.loop-row.row ≡ false = grind arith in
-    let inside : c.loop-row.row < 4 * c.args.rules.now.decks = omega (arith, c.loop-row-test.true, c.decks-row-end.ensures) in
+    let inside : c.loop-row.row < 4 * c.args.rules.now.decks = omega
+    (arith, c.loop-row-test.true, c.decks-row-end.ensures) in
     sym (
     list_all-map in_order (row_at c.args.rules.now board) (range_with_len 0 (4 * c.args.rules.now.decks))
     ∙ list_all-range_fails p (4 * c.args.rules.now.decks) c.loop-row.row inside fails
@@ -22,6 +23,7 @@ returns-then-not-is_row_in_order g c =
 
 pub loop-row-preserved : goal.loop-row-preserved
 loop-row-preserved g c =
-    let p : ℕ → Bool = λ row. is_in_sequence (take (c.args.rules.now.max_rank - 1) (row_at c.args.rules.now (g.T.Table.board c.args.table.now) row)) in
+    let p : ℕ → Bool = λ row. is_in_sequence
+    (take (c.args.rules.now.max_rank - 1) (row_at c.args.rules.now (g.T.Table.board c.args.table.now) row)) in
     let holds : p c.loop-row.row ≡ true = grind arith in
     list_all-range_more p c.loop-row.row c.loop-row.invariant holds

@@ -4,7 +4,8 @@ use Rattle.json_tree.proofs.Reading.{tree_of-read, tree_of-refused, object_of-to
 use Rattle.json_tree.proofs.read.read_object.Goals as goal
 
 pub returns-then-bytes-gt-MAX_FILE_LENGTH-clause-fault : goal.returns-then-bytes-gt-MAX_FILE_LENGTH-clause-fault
-returns-then-bytes-gt-MAX_FILE_LENGTH-clause-fault c _ = object_of-too_long c.args.bytes.now c.if-bytes-gt-MAX_FILE_LENGTH.true
+returns-then-bytes-gt-MAX_FILE_LENGTH-clause-fault c _ = object_of-too_long c.args.bytes.now
+    c.if-bytes-gt-MAX_FILE_LENGTH.true
 
 pub returns-then-is_object-clause-object : goal.returns-then-is_object-clause-object
 returns-then-is_object-clause-object c =
@@ -19,4 +20,5 @@ returns-else-is_object-clause-fault c _ =
 pub returns-in-Err-2-clause-fault : goal.returns-in-Err-2-clause-fault
 returns-in-Err-2-clause-fault c _ =
     object_of-tree c.args.bytes.now c.if-bytes-gt-MAX_FILE_LENGTH.false None
-    (tree_of-refused c.args.bytes.now (c.in-Err.ensures.err (λ memory. let no : false ≡ true = c.if-is_memory.ensures.1 memory in cc)))
+    (tree_of-refused c.args.bytes.now
+    (c.in-Err.ensures.err (λ memory. let no : false ≡ true = c.if-is_memory.ensures.1 memory in cc)))

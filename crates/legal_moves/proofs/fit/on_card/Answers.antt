@@ -8,7 +8,8 @@ pub returns : goal.returns
 returns c = λ card ranked.
     let rules = c.args.rules.now in
     let ranks : ranks_fit rules.wrap rules.max_rank card.rank c.args.lower.rank ≡ (c.rank_on-rank.result == card.rank) =
-    ap (λ r. ranks_fit rules.wrap rules.max_rank card.rank r) (sym c.rank.ensures.value) ∙ c.rank_on-rank.ensures.fits card.rank ranked in
+    ap (λ r. ranks_fit rules.wrap rules.max_rank card.rank r) (sym c.rank.ensures.value)
+    ∙ c.rank_on-rank.ensures.fits card.rank ranked in
     rw (
       c.with_suit.ensures card ranked,
       c.with_suit-hearts.ensures card ranked,
@@ -17,6 +18,7 @@ returns c = λ card ranked.
       c.none.ensures card,
       c.suit-suit.ensures,
       ranks,
-      in_each_suit card.suit ((c.rank_on-rank.result == card.rank) && suits_fit rules.build card.suit c.args.lower.suit),
+      in_each_suit card.suit
+          ((c.rank_on-rank.result == card.rank) && suits_fit rules.build card.suit c.args.lower.suit),
     )
     refl

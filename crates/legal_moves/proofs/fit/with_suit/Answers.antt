@@ -12,7 +12,8 @@ returns-then-suits_fit c = λ card ranked.
     rw (
       c.with.ensures card ranked,
       same_suit-swap p c.args.suit card.suit,
-      ap (λ b. suits_fit b c.args.suit c.args.lower) (sym c.build.ensures) ∙ sym c.suits_fit.ensures ∙ c.if-suits_fit.true,
+      ap (λ b. suits_fit b c.args.suit c.args.lower) (sym c.build.ensures) ∙ sym c.suits_fit.ensures
+          ∙ c.if-suits_fit.true,
       and-true (c.args.rank == card.rank),
     ) refl
 
@@ -21,7 +22,8 @@ returns-else-suits_fit c = λ card ranked.
     let p : Suit → Bool = λ s. (c.args.rank == card.rank) && suits_fit c.args.rules.now.build s c.args.lower in
     rw (
       same_suit-swap p c.args.suit card.suit,
-      ap (λ b. suits_fit b c.args.suit c.args.lower) (sym c.build.ensures) ∙ sym c.suits_fit.ensures ∙ c.if-suits_fit.false,
+      ap (λ b. suits_fit b c.args.suit c.args.lower) (sym c.build.ensures) ∙ sym c.suits_fit.ensures
+          ∙ c.if-suits_fit.false,
       and-false (c.args.rank == card.rank),
       and-false (same_suit c.args.suit card.suit),
     ) refl

@@ -10,7 +10,8 @@ use Rattle.legal_moves.proofs.legal.first_given.Goals as goal
 pub loop-given-init : goal.loop-given-init
 loop-given-init g c =
     let pile : Pile = pile_at (g.T.Table.board c.args.table.now) c.args.i in
-    let top : top_of pile.cards ≡ Some c.in-Some.top = ap top_of (sym c.pile-pile.ensures.cards) ∙ sym c.top.ensures ∙ c.in-Some.is in
+    let top : top_of pile.cards ≡ Some c.in-Some.top = ap top_of (sym c.pile-pile.ensures.cards)
+    ∙ sym c.top.ensures ∙ c.in-Some.is in
     record {
       stands = c.under-left.ensures.stands;
       reached = reached-first c.args.rules.now pile.cards _ c.in-Some.top top
@@ -22,7 +23,8 @@ loop-given-preserved g c =
     let pile : Pile = pile_at (g.T.Table.board c.args.table.now) c.args.i in
     record {
       stands = c.under-left-in-Some-next_down.ensures.stands;
-      reached = reached-more c.args.rules.now pile.cards _ _ c.loop-given.card c.in-Some-next_down.lower c.loop-given.given c.loop-given.invariant.reached
+      reached = reached-more c.args.rules.now pile.cards _ _ c.loop-given.card c.in-Some-next_down.lower
+          c.loop-given.given c.loop-given.invariant.reached
           (sym c.next_down.ensures ∙ c.in-Some-next_down.is)
           c.under-left-in-Some-next_down.ensures.cards;
     }
@@ -40,9 +42,12 @@ returns g c =
     let pile : Pile = pile_at (g.T.Table.board c.args.table.now) c.args.i in
     let n : ℕ = c.loop-given.given in
     let same : n ≡ c.args.count = omega arith in
-    let few : n ≤ most_given c.args.rules.now pile = omega (arith, same, c.most_given.ensures, c.from.ensures, c.if-most_given-from.false) in
+    let few : n ≤ most_given c.args.rules.now pile = omega
+    (arith, same, c.most_given.ensures, c.from.ensures, c.if-most_given-from.false) in
     let gives : pile_gives c.args.rules.now pile c.args.count ≡ true =
-    ap (pile_gives c.args.rules.now pile) (sym same) ∙ gives-reached c.args.rules.now pile _ c.loop-given.card n c.loop-given.invariant.reached few in
+    ap (pile_gives c.args.rules.now pile) (sym same)
+    ∙ gives-reached c.args.rules.now pile _ c.loop-given.card n c.loop-given.invariant.reached few in
     let first : slice_get (top_part c.args.count pile.cards) 0 ≡ Some c.loop-given.card =
-    ap (λ k. slice_get (top_part k pile.cards) 0) (sym same) ∙ ap (λ (xs : List Card). slice_get xs 0) c.loop-given.invariant.reached.first in
+    ap (λ k. slice_get (top_part k pile.cards) 0) (sym same)
+    ∙ ap (λ (xs : List Card). slice_get xs 0) c.loop-given.invariant.reached.first in
     rw (gives, first) refl

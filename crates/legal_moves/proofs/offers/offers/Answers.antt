@@ -15,10 +15,12 @@ entries_of false have limit all h = sym (eqb-true have limit h)
 pub returns-clause-legal : goal.returns-clause-legal
 returns-clause-legal g c to =
     let board : Board = g.T.Table.board c.args.table.now in
-    let filled : IsTrue (if c.args.rules.now.stacked then list_all (λ e. is_some e) board.reserve else length board.reserve == c.args.rules.now.reserve) =
+    let filled : IsTrue (if c.args.rules.now.stacked then list_all (λ e. is_some e) board.reserve
+    else length board.reserve == c.args.rules.now.reserve) =
     c.requires.belongs.reserve_filled in
     let entries : c.entry_count.result ≡ entry_count c.args.rules.now board =
-    c.entry_count.ensures ∙ entries_of c.args.rules.now.stacked (length board.reserve) c.args.rules.now.reserve (list_all (λ e. is_some e) board.reserve) filled in
+    c.entry_count.ensures ∙ entries_of c.args.rules.now.stacked (length board.reserve) c.args.rules.now.reserve
+    (list_all (λ e. is_some e) board.reserve) filled in
     rw (
       c.push_singles-4.ensures.legal to,
       c.push_singles-3.ensures.legal to,

@@ -12,9 +12,11 @@ use Rattle.legal_moves.proofs.offers.push_pile.Given as goal
 abbrev pub invariant-loop-count : goal.invariant-loop-count
 invariant-loop-count g l = record {
   stands : g.T.Table.stands l.table l.left;
-  reached : Reached l.rules (pile_at (g.T.Table.board l.table) l.fn.i).cards (g.T.Table.cards l.table l.left) l.card l.count;
+  reached : Reached l.rules (pile_at (g.T.Table.board l.table) l.fn.i).cards
+      (g.T.Table.cards l.table l.left) l.card l.count;
   legal : (to : Place) → legal_of l.rules (g.T.Table.board l.table) l.offers.items to
-      ≡ legal_of l.rules (g.T.Table.board l.table) l.fn.offers.items to ++ legal_up_to l.rules (g.T.Table.board l.table) to (Tableau l.fn.i) l.count;
+      ≡ legal_of l.rules (g.T.Table.board l.table) l.fn.offers.items to
+      ++ legal_up_to l.rules (g.T.Table.board l.table) to (Tableau l.fn.i) l.count;
   given : All (IsGiven l.rules (g.T.Table.board l.table)) l.offers.items;
   len : array_vec_len l.offers ≡ array_vec_len l.fn.offers + l.count;
 }

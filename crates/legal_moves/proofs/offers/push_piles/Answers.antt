@@ -10,20 +10,28 @@ use Rattle.legal_moves.proofs.offers.push_piles.Goals as goal
 
 pub push_pile-requires-clause-few : goal.push_pile-requires-clause-few
 push_pile-requires-clause-few g c =
-    let few = each_place-few c.args.rules.now (g.T.Table.board c.args.table.now) c.max_rank.ensures.limits c.requires.belongs in
+    let few = each_place-few c.args.rules.now (g.T.Table.board c.args.table.now) c.max_rank.ensures.limits
+    c.requires.belongs in
     few.piles c.loop-i.i
 
 pub push_pile-requires-clause-room : goal.push_pile-requires-clause-room
 push_pile-requires-clause-room g c =
     let board : Board = g.T.Table.board c.args.table.now in
     let few = each_place-few c.args.rules.now board c.max_rank.ensures.limits c.requires.belongs in
-    let here : c.loop-i.i < length board.piles = omega (arith, c.loop-i-test.true, c.piles-i-end.ensures, c.requires.belongs.piles) in
-    omega (arith, few.all, c.loop-i.invariant.len, sum_by_more_le (λ pile. length pile.cards) board.piles c.loop-i.i empty_pile here)
+    let here : c.loop-i.i < length board.piles = omega
+    (arith, c.loop-i-test.true, c.piles-i-end.ensures, c.requires.belongs.piles) in
+    omega (
+      arith,
+      few.all,
+      c.loop-i.invariant.len,
+      sum_by_more_le (λ pile. length pile.cards) board.piles c.loop-i.i empty_pile here,
+    )
 
 pub loop-i-preserved : goal.loop-i-preserved
 loop-i-preserved g c =
     let board : Board = g.T.Table.board c.args.table.now in
-    let here : c.loop-i.i < length board.piles = omega (arith, c.loop-i-test.true, c.piles-i-end.ensures, c.requires.belongs.piles) in
+    let here : c.loop-i.i < length board.piles = omega
+    (arith, c.loop-i-test.true, c.piles-i-end.ensures, c.requires.belongs.piles) in
     record {
       legal = λ to.
           rw (
@@ -33,7 +41,12 @@ loop-i-preserved g c =
           )
           (simp (flat_map-append, append-nil, append_assoc) refl);
       given = c.push_pile.ensures.given;
-      len = omega (arith, c.push_pile.ensures.len, c.loop-i.invariant.len, sum_by_more (λ pile. length pile.cards) board.piles c.loop-i.i empty_pile here);
+      len = omega (
+        arith,
+        c.push_pile.ensures.len,
+        c.loop-i.invariant.len,
+        sum_by_more (λ pile. length pile.cards) board.piles c.loop-i.i empty_pile here,
+      );
     }
 
 pub returns-clause-len : goal.returns-clause-len

@@ -16,7 +16,8 @@ returns-in-Some-clause-given g c =
     rw c.push.ensures.items
     (All-append (IsGiven rules board) c.args.offers.now.items (offer ∷ []) c.requires.given
     (All-cons (IsGiven rules board) offer []
-    (given-single rules board c.args.from card c.of-bit.result c.requires.here c.requires.no_pile (sym c.single_at.ensures ∙ c.in-Some.is) c.of-bit.ensures.ranked c.of-bit.ensures.value)
+    (given-single rules board c.args.from card c.of-bit.result c.requires.here c.requires.no_pile
+    (sym c.single_at.ensures ∙ c.in-Some.is) c.of-bit.ensures.ranked c.of-bit.ensures.value)
     (All-nil (IsGiven rules board))))
 
 pub returns-in-Some-clause-legal : goal.returns-in-Some-clause-legal
@@ -26,7 +27,8 @@ returns-in-Some-clause-legal g c to =
     let offer : Offer = record { from = c.args.from; count = 1; bit = c.of-bit.result } in
     ap (λ xs. legal_of rules board xs to) c.push.ensures.items
     ∙ legal_of-push rules board c.args.offers.now.items offer to
-    ∙ ap (λ moves. legal_of rules board c.args.offers.now.items to ++ moves) (sym (between-single rules board to c.args.from c.requires.no_pile))
+    ∙ ap (λ moves. legal_of rules board c.args.offers.now.items to ++ moves)
+    (sym (between-single rules board to c.args.from c.requires.no_pile))
 
 pub returns-in-None-clause-legal : goal.returns-in-None-clause-legal
 returns-in-None-clause-legal g c to =

@@ -21,7 +21,8 @@ loop-offer-preserved c =
     let new : CardSet = c.with_bit-set.result in
     let old : All (IsIn new) (take c.loop-offer.offer-index offers) = λ k d low.
     c.with_bit-set.ensures _ ∙ rw (c.loop-offer.invariant k d low) (or-true _) in
-    let here : IsIn new item = c.with_bit-set.ensures item.bit ∙ rw (eq-eqb item.bit.place item.bit.place refl) (true-or (has_bit c.loop-offer.set item.bit)) in
+    let here : IsIn new item = c.with_bit-set.ensures item.bit ∙ rw (eq-eqb item.bit.place item.bit.place refl)
+    (true-or (has_bit c.loop-offer.set item.bit)) in
     All-more (IsIn new) offers c.loop-offer.offer-index blank c.loop-offer-test.true old here
 
 pub returns : goal.returns

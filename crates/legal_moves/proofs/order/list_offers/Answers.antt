@@ -17,7 +17,8 @@ loop-offer-preserved g c =
     let offers : List Offer = c.args.offers.now in
     let blank : Offer = record { from = Tableau 0; count = 0; bit = record { place = 0 } } in
     let item : Offer = get_or offers c.loop-offer.offer-index blank in
-    let given : IsGiven rules board item = All-get_or (IsGiven rules board) offers c.loop-offer.offer-index blank c.loop-offer-test.true c.requires.given in
+    let given : IsGiven rules board item = All-get_or (IsGiven rules board) offers c.loop-offer.offer-index blank
+    c.loop-offer-test.true c.requires.given in
     let legal : is_legal_move rules board (carry_of c.args.to item) ≡ c.may_go.result = sym c.may_go.ensures in
     elim c.if-may_go.branch [
       | then-may_go+in_ok-push w ↦
@@ -25,13 +26,15 @@ loop-offer-preserved g c =
             w.out-is,
             w.in_ok-push.ensures.items,
             c.loop-offer.invariant,
-            legal_of-more_legal rules board offers c.loop-offer.offer-index blank c.args.to c.loop-offer-test.true (legal ∙ w.if-may_go.true),
+            legal_of-more_legal rules board offers c.loop-offer.offer-index blank c.args.to c.loop-offer-test.true
+                (legal ∙ w.if-may_go.true),
           )
           (simp append_assoc (refl {A = List Move}))
       | else-may_go w ↦
           rw (
             w.out-is,
             c.loop-offer.invariant,
-            legal_of-more_not rules board offers c.loop-offer.offer-index blank c.args.to c.loop-offer-test.true (legal ∙ w.if-may_go.false),
+            legal_of-more_not rules board offers c.loop-offer.offer-index blank c.args.to c.loop-offer-test.true
+                (legal ∙ w.if-may_go.false),
           ) refl
     ]

@@ -9,7 +9,8 @@ pub returns-in_err-list_to-clause-err : goal.returns-in_err-list_to-clause-err
 returns-in_err-list_to-clause-err g c =
     search (
       rules,
-      StartsWith-append c.args.out.now.items _ c.loop-i.out.items c.list_to.new.out.items c.loop-i.invariant c.in_err-list_to.ensures.err,
+      StartsWith-append c.args.out.now.items _ c.loop-i.out.items c.list_to.new.out.items c.loop-i.invariant
+          c.in_err-list_to.ensures.err,
     )
 
 pub loop-i-preserved : goal.loop-i-preserved

@@ -7,4 +7,5 @@ use Rattle.legal_moves.proofs.order.list_onto.Given as goal
 
 abbrev pub invariant-loop-i : goal.invariant-loop-i
 invariant-loop-i g l =
-    l.out.items ≡ l.initial.out.items ++ flat_map (legal_of l.rules (g.T.Table.board l.table) l.offers) (map (place_in l.fn.kind) (range_with_len 0 l.i))
+    l.out.items ≡ l.initial.out.items ++ flat_map (legal_of l.rules (g.T.Table.board l.table) l.offers)
+    (map (place_in l.fn.kind) (range_with_len 0 l.i))

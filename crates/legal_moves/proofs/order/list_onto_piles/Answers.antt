@@ -13,5 +13,6 @@ returns-then-are_piles_closed-clause-ok g c =
     let board : Board = g.T.Table.board c.args.table.now in
     let closed = c.are_piles_closed.ensures c.if-are_piles_closed.true in
     let none : flat_map (legal_of rules board c.args.offers.now) (map Tableau (range_with_len 0 rules.piles)) ≡ [] =
-    flat_map-none (legal_of rules board c.args.offers.now) Tableau (range_with_len 0 rules.piles) (legal_of-closed rules board c.args.offers.now closed) in
+    flat_map-none (legal_of rules board c.args.offers.now) Tableau (range_with_len 0 rules.piles)
+    (legal_of-closed rules board c.args.offers.now closed) in
     rw none (sym (append-nil c.args.out.now.items))

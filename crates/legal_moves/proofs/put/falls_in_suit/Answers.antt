@@ -13,8 +13,10 @@ returns-then-not-is_of g c =
     let cards : List Card = (pile_at (g.T.Table.board c.args.table.now) c.args.i).cards in
     let n : ℕ = c.loop-depth.depth in
     let card : Card = c.in-Some.card in
-    let top : top_of (below_top n cards) ≡ Some card = ap top_of (sym c.loop-depth.invariant.left) ∙ sym c.top.ensures ∙ c.in-Some.is in
-    let other : ((place_of card.suit == foundation_suit c.args.f) && (card.rank == n + 1)) ≡ false = sym c.is_of.ensures ∙ c.if-not-is_of.true in
+    let top : top_of (below_top n cards) ≡ Some card = ap top_of (sym c.loop-depth.invariant.left)
+    ∙ sym c.top.ensures ∙ c.in-Some.is in
+    let other : ((place_of card.suit == foundation_suit c.args.f) && (card.rank == n + 1)) ≡ false = sym c.is_of.ensures
+    ∙ c.if-not-is_of.true in
     let broken : falls_in_suit c.args.f (n + 1) (top_part (n + 1) cards) ≡ false =
     falls-more c.args.f cards n card (omega arith) top ∙ rw other refl in
     sym (falls-broken c.args.f cards (n + 1) c.args.count (omega arith) c.requires.enough broken)
@@ -24,10 +26,13 @@ loop-depth-preserved g c =
     let cards : List Card = (pile_at (g.T.Table.board c.args.table.now) c.args.i).cards in
     let n : ℕ = c.loop-depth.depth in
     let card : Card = c.in-Some.card in
-    let top : top_of (below_top n cards) ≡ Some card = ap top_of (sym c.loop-depth.invariant.left) ∙ sym c.top.ensures ∙ c.in-Some.is in
-    let own : ((place_of card.suit == foundation_suit c.args.f) && (card.rank == n + 1)) ≡ true = sym c.is_of.ensures ∙ c.if-not-is_of.false in
+    let top : top_of (below_top n cards) ≡ Some card = ap top_of (sym c.loop-depth.invariant.left)
+    ∙ sym c.top.ensures ∙ c.in-Some.is in
+    let own : ((place_of card.suit == foundation_suit c.args.f) && (card.rank == n + 1)) ≡ true = sym c.is_of.ensures
+    ∙ c.if-not-is_of.false in
     record {
       stands = c.under-left.ensures.stands;
-      left = c.under-left.ensures.cards ∙ ap (below_top 1) c.loop-depth.invariant.left ∙ below_top-more cards n (omega arith);
+      left = c.under-left.ensures.cards ∙ ap (below_top 1) c.loop-depth.invariant.left
+          ∙ below_top-more cards n (omega arith);
       falls = falls-more c.args.f cards n card (omega arith) top ∙ rw own c.loop-depth.invariant.falls;
     }

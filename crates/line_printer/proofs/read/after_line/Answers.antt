@@ -8,4 +8,8 @@ returns-in_default c = (refl, count_none _ _ c.in_default.ensures.parts)
 
 pub returns : goal.returns
 unfolding after_line
-returns c = (c.in-Some.ensures.after, count_more _ c.args.text.now c.in-Some.field-0-0.now c.in-Some.rest.now c.in-Some.ensures.parts)
+returns c = (
+  c.in-Some.ensures.after,
+  count_more _ c.args.text.now c.in-Some.field-0-0.now c.in-Some.rest.now
+      c.in-Some.ensures.parts,
+)

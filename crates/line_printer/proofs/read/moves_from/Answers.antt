@@ -4,9 +4,11 @@ use Rattle.line_printer.proofs.read.moves_from.Goals as goal
 
 pub returns-in_default-move_of : goal.returns-in_default-move_of
 returns-in_default-move_of c =
-    read_bad _ _ _ _ _ c.in-Some.part.now c.in-Some.after.now c.loop-part.invariant c.in-Some.ensures.parts c.in_default-move_of.ensures
+    read_bad _ _ _ _ _ c.in-Some.part.now c.in-Some.after.now c.loop-part.invariant c.in-Some.ensures.parts
+    c.in_default-move_of.ensures
 
 pub loop-part-preserved : goal.loop-part-preserved
 loop-part-preserved c =
     rw c.in_ok-push.ensures.items
-    (read_more _ _ _ _ _ c.in-Some.part.now c.in-Some.after.now _ c.loop-part.invariant c.in-Some.ensures.parts c.in-Some.ensures.shorter c.in-Some-move_of.ensures)
+    (read_more _ _ _ _ _ c.in-Some.part.now c.in-Some.after.now _ c.loop-part.invariant c.in-Some.ensures.parts
+    c.in-Some.ensures.shorter c.in-Some-move_of.ensures)

@@ -27,12 +27,14 @@ unfolding most_bytes
 returns-in_ok-after_four_lines c =
     let e = c.in_ok-after_four_lines.ensures in
     let reads : ReadsAs c.moves_from.result (line_of c.args.bytes.now) =
-    rw (line_of_head c.args.bytes.now c.in_ok-after_four_lines.field-0.now c.if-bytes-gt-MOST_BYTES.false (sym c.if-has_head.ensures) e.0 e.1) c.moves_from.ensures in
+    rw (line_of_head c.args.bytes.now c.in_ok-after_four_lines.field-0.now c.if-bytes-gt-MOST_BYTES.false
+    (sym c.if-has_head.ensures) e.0 e.1) c.moves_from.ensures in
     record { read = reads; written = written_of c.moves_from.result c.args.bytes.now reads }
 
 pub returns-else-has_head : goal.returns-else-has_head
 unfolding most_bytes
 returns-else-has_head c =
     let reads : ReadsAs c.moves_from-else-has_head.result (line_of c.args.bytes.now) =
-    rw (line_of_plain c.args.bytes.now c.if-bytes-gt-MOST_BYTES.false (sym c.if-has_head.ensures)) c.moves_from-else-has_head.ensures in
+    rw (line_of_plain c.args.bytes.now c.if-bytes-gt-MOST_BYTES.false (sym c.if-has_head.ensures))
+    c.moves_from-else-has_head.ensures in
     record { read = reads; written = written_of c.moves_from-else-has_head.result c.args.bytes.now reads }

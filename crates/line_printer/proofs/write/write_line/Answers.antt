@@ -6,5 +6,6 @@ use Rattle.line_printer.proofs.write.write_line.Goals as goal
 
 pub returns-clause-reads_back : goal.returns-clause-reads_back
 returns-clause-reads_back c =
-    let text = ap (λ (v : Vec ℕ Global). v.items) c.into_bytes.ensures.value ∙ c.in_ok-push_moves.ensures.pushed ∙ ap (λ t. t ++ line_text c.args.moves.now) c.new-text.ensures.bytes in
+    let text = ap (λ (v : Vec ℕ Global). v.items) c.into_bytes.ensures.value ∙ c.in_ok-push_moves.ensures.pushed
+    ∙ ap (λ t. t ++ line_text c.args.moves.now) c.new-text.ensures.bytes in
     text_back _ c.args.moves.now text c.in_ok-push_moves.ensures.small

@@ -6,7 +6,8 @@ pub returns-then-taken-limit-clause-front : goal.returns-then-taken-limit-clause
 returns-then-taken-limit-clause-front g c =
     let done = c.reads.invariant.done in
     let old = c.args.out.now.items in
-    reads_most (c.args.limit + 1) (g.F.Read.remaining c.args.file.now) (g.F.Read.remaining c.reads.file) old c.reads.out.items done.0 done.1 done.2
+    reads_most (c.args.limit + 1) (g.F.Read.remaining c.args.file.now)
+    (g.F.Read.remaining c.reads.file) old c.reads.out.items done.0 done.1 done.2
     (omega (
       arith,
       done.3,

@@ -6,19 +6,26 @@ use Rattle.patience.proofs.files.fetch_line.Goals as goal
 pub returns-clause-accepted : goal.returns-clause-accepted
 returns-clause-accepted g c =
     let files = g.S.Shelf.files c.args.shelf.now in
-    let fetched = read_as files c.word_at-name.result.now c.deref.result.now c.in_ok-bytes.bytes.items 67108864 c.deref.ensures.value c.in_ok-bytes.ensures.fetched in
+    let fetched = read_as files c.word_at-name.result.now c.deref.result.now c.in_ok-bytes.bytes.items 67108864
+    c.deref.ensures.value c.in_ok-bytes.ensures.fetched in
     IfOk-weaker c.moves_of_bytes.result _ _
-    (λ moves accepted. has_line files (texts c.args.words.now) c.word_at-name.result.now c.deref.result.now c.args.rules.now c.args.board.now moves
+    (λ moves accepted. has_line files (texts c.args.words.now) c.word_at-name.result.now c.deref.result.now
+    c.args.rules.now c.args.board.now moves
     c.word_at-name.ensures c.requires fetched accepted)
     c.moves_of_bytes.ensures.accepted
 
 pub returns-clause-stopped : goal.returns-clause-stopped
 returns-clause-stopped g c =
     let files = g.S.Shelf.files c.args.shelf.now in
-    let fetched = read_as files c.word_at-name.result.now c.deref.result.now c.in_ok-bytes.bytes.items 67108864 c.deref.ensures.value c.in_ok-bytes.ensures.fetched in
+    let fetched = read_as files c.word_at-name.result.now c.deref.result.now c.in_ok-bytes.bytes.items 67108864
+    c.deref.ensures.value c.in_ok-bytes.ensures.fetched in
     IfErr-weaker c.moves_of_bytes.result _ _
     (λ stop stopped. line-stopped
-    (record { files = files; before = g.S.Shelf.faults c.args.shelf.now; after = g.S.Shelf.faults c.fetch_file.new.shelf })
+    (record {
+      files = files;
+      before = g.S.Shelf.faults c.args.shelf.now;
+      after = g.S.Shelf.faults c.fetch_file.new.shelf;
+    })
     (texts c.args.words.now) c.word_at-name.result.now c.deref.result.now c.args.rules.now c.args.board.now stop
     c.word_at-name.ensures c.requires fetched stopped)
     c.moves_of_bytes.ensures.refused

@@ -11,21 +11,30 @@ use Rattle.patience.proofs.starts.fetch_start.Goals as goal
 
 pub fetch_deal-requires-clause-takes : goal.fetch_deal-requires-clause-takes
 fetch_deal-requires-clause-takes g c =
-    ap takes_deal c.job.ensures ∙ ap (λ (s : Source). takes_deal (Solve s c.args.asked.cache c.args.asked.nodes c.args.asked.narrow c.args.asked.way c.args.asked.memo)) c.in-File.is
+    ap takes_deal c.job.ensures ∙ ap (λ (s : Source). takes_deal (Solve s c.args.asked.cache c.args.asked.nodes
+    c.args.asked.narrow c.args.asked.way c.args.asked.memo)) c.in-File.is
 
 pub returns-in-File-clause-accepted : goal.returns-in-File-clause-accepted
-returns-in-File-clause-accepted g c = IfOk-weaker c.fetch_deal.result _ _ (λ board has. inl (subst (λ (j : Job). HasDeal (g.S.Shelf.files c.args.shelf.now) (texts c.args.words.now) j c.args.rules.now board) c.job.ensures has)) c.fetch_deal.ensures.accepted
+returns-in-File-clause-accepted g c = IfOk-weaker c.fetch_deal.result _ _ (λ board has. inl (subst (λ (j : Job).
+    HasDeal (g.S.Shelf.files c.args.shelf.now) (texts c.args.words.now) j c.args.rules.now board) c.job.ensures has))
+    c.fetch_deal.ensures.accepted
 
 pub returns-in-FromSeed-clause-accepted : goal.returns-in-FromSeed-clause-accepted
 returns-in-FromSeed-clause-accepted g c =
-    dealt-start (g.S.Shelf.files c.args.shelf.now) (texts c.args.words.now) c.args.asked c.in-FromSeed.seed c.args.rules.now
+    dealt-start (g.S.Shelf.files c.args.shelf.now)
+    (texts c.args.words.now) c.args.asked c.in-FromSeed.seed c.args.rules.now
     c.deal_seed.result c.in-FromSeed.is c.requires c.deal_seed.ensures.dealt c.deal_seed.ensures.fits
 
 pub returns-in-FromSeed-clause-stopped : goal.returns-in-FromSeed-clause-stopped
 returns-in-FromSeed-clause-stopped g c =
     IfErr-weaker c.deal_seed.result _ _
     (λ stop stopped. seed-stopped
-    (record { files = g.S.Shelf.files c.args.shelf.now; before = g.S.Shelf.faults c.args.shelf.now; after = g.S.Shelf.faults c.args.shelf.now })
+    (record {
+      files = g.S.Shelf.files c.args.shelf.now;
+      before = g.S.Shelf.faults c.args.shelf.now;
+      after = g.S.Shelf.faults c.args.shelf.now;
+    })
     (texts c.args.words.now) (job_asked c.args.asked) c.args.rules.now c.in-FromSeed.seed stop
-    c.requires (ap (λ (s : Source). seed_of (Solve s c.args.asked.cache c.args.asked.nodes c.args.asked.narrow c.args.asked.way c.args.asked.memo)) c.in-FromSeed.is) stopped)
+    c.requires (ap (λ (s : Source). seed_of (Solve s c.args.asked.cache c.args.asked.nodes c.args.asked.narrow
+    c.args.asked.way c.args.asked.memo)) c.in-FromSeed.is) stopped)
     c.deal_seed.ensures.refused

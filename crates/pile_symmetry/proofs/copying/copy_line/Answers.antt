@@ -4,7 +4,8 @@ use Rattle.pile_symmetry.proofs.copying.copy_line.Goals as goal
 
 pub loop-k-preserved : goal.loop-k-preserved
 loop-k-preserved c =
-    let there : c.args.at + 8 * c.loop-k.k + 8 ≤ length c.loop-k.out = omega (arith, c.loop-k.invariant.1, c.requires.there) in
+    let there : c.args.at + 8 * c.loop-k.k + 8 ≤ length c.loop-k.out = omega
+    (arith, c.loop-k.invariant.1, c.requires.there) in
     let here : c.args.from + 8 * c.loop-k.k + 8 ≤ length c.args.bytes.now = omega (arith, c.requires.here) in (
       copied-more c.args.out.now c.loop-k.out c.copy_eight.new.out c.args.bytes.now c.args.at c.args.from c.loop-k.k
           there here c.copy_eight.ensures c.loop-k.invariant.0,

@@ -6,4 +6,5 @@ use Rattle.pile_symmetry.proofs.filling.lacking_cards.Given as goal
 
 abbrev pub invariant-loop-number : goal.invariant-loop-number
 invariant-loop-number l =
-    l.cards ≡ flat_map (λ n. replicate (lacking l.rules l.parts (card_numbered n)) (card_numbered n)) (range_with_len 0 l.number)
+    l.cards ≡ flat_map (λ n. replicate (lacking l.rules l.parts (card_numbered n)) (card_numbered n))
+    (range_with_len 0 l.number)

@@ -17,5 +17,6 @@ returns-in_err-top c =
 
 pub returns : goal.returns
 returns c = record {
-  value = λ other. c.rules_of_value.ensures ∙ sym (rules_of-object c.args.bytes.now (view c.in_ok-top.top) c.in_ok-top.ensures.object);
+  value = λ other. c.rules_of_value.ensures
+      ∙ sym (rules_of-object c.args.bytes.now (view c.in_ok-top.top) c.in_ok-top.ensures.object);
 }

@@ -10,8 +10,10 @@ use Rattle.safe_foundation.proofs.finding.first_pile.Goals as goal
 pub returns-then-holds : goal.returns-then-holds
 returns-then-holds g c =
     let board : Board = g.T.Table.board c.args.table.now in (
-      gives-pile c.args.rules.now board c.args.card c.loop-i.i c.requires (a_pile c.args.rules.now board c.loop-i.i c.requires (omega arith))
-          ∙ ap (holds c.args.card) (sym (c.top.ensures ∙ ap top_of c.pile.ensures.cards)) ∙ sym c.holds.ensures ∙ c.if-holds.true,
+      gives-pile c.args.rules.now board c.args.card c.loop-i.i c.requires
+          (a_pile c.args.rules.now board c.loop-i.i c.requires (omega arith))
+          ∙ ap (holds c.args.card) (sym (c.top.ensures ∙ ap top_of c.pile.ensures.cards)) ∙ sym c.holds.ensures
+          ∙ c.if-holds.true,
       c.loop-i.invariant,
     )
 
@@ -19,5 +21,7 @@ pub loop-i-preserved : goal.loop-i-preserved
 loop-i-preserved g c =
     let board : Board = g.T.Table.board c.args.table.now in
     below_more (λ (k : ℕ). gives c.args.rules.now board c.args.card (Tableau k) ≡ false) c.loop-i.i c.loop-i.invariant
-    (gives-pile c.args.rules.now board c.args.card c.loop-i.i c.requires (a_pile c.args.rules.now board c.loop-i.i c.requires (omega arith))
-    ∙ ap (holds c.args.card) (sym (c.top.ensures ∙ ap top_of c.pile.ensures.cards)) ∙ sym c.holds.ensures ∙ c.if-holds.false)
+    (gives-pile c.args.rules.now board c.args.card c.loop-i.i c.requires
+    (a_pile c.args.rules.now board c.loop-i.i c.requires (omega arith))
+    ∙ ap (holds c.args.card) (sym (c.top.ensures ∙ ap top_of c.pile.ensures.cards)) ∙ sym c.holds.ensures
+    ∙ c.if-holds.false)

@@ -10,7 +10,9 @@ use Rattle.search_space.proofs.listing.list_free_steps.Goals as goal
 
 pub returns-then-not-deals_to_waste-clause-listed : goal.returns-then-not-deals_to_waste-clause-listed
 returns-then-not-deals_to_waste-clause-listed c =
-    let other : deals_to_waste c.args.rules.now.target ≡ false = sym c.deals_to_waste.ensures ∙ c.if-not-deals_to_waste.true in
+    let other : deals_to_waste c.args.rules.now.target ≡ false = sym c.deals_to_waste.ensures
+    ∙ c.if-not-deals_to_waste.true in
     subst (λ xs. OnOk c.push_singles.result (c.push_singles.new.out.items ≡ c.args.out.now.items ++ xs))
-    (ap (λ (ms : List Move). steps_from 0 (filter (λ m. true || is_from_elsewhere m) ms)) c.requires.moves ∙ all-free c.args.rules.now (board_of c.args.packed.now) other)
+    (ap (λ (ms : List Move). steps_from 0 (filter (λ m. true || is_from_elsewhere m) ms)) c.requires.moves
+    ∙ all-free c.args.rules.now (board_of c.args.packed.now) other)
     c.push_singles.ensures.ok

@@ -1,4 +1,5 @@
-use Rattle.std.proofs.Common.{◌≡◌, Bool, ◌||◌, List, [], ◌∷◌, ◌++◌, length, take, get_or, refl, ap, sym, ◌∙◌, arith, rules, append-nil, append_assoc}
+use Rattle.std.proofs.Common.{◌≡◌, Bool, ◌||◌, List, [], ◌∷◌, ◌++◌, length, take, get_or, refl, ap, sym, ◌∙◌, arith}
+use Rattle.std.proofs.Common.{rules, append-nil, append_assoc}
 use Rattle.std.specs.List.{filter}
 use Rattle.std.proofs.lemmas.List.{take_all}
 use Rattle.game_rules.specs.declared.Move.{Move}
@@ -24,13 +25,16 @@ loop-m-preserved c =
       | then-is_listed+in_ok-push_single w ↦
           rw w.out-is w.in_ok-push_single.ensures.ok
           ∙ ap (λ (xs : List Step). xs ++ steps_from 0 (item ∷ [])) c.loop-m.invariant
-          ∙ append_assoc c.args.out.now.items (steps_from 0 (filter test (take c.loop-m.m-index moves))) (steps_from 0 (item ∷ []))
+          ∙ append_assoc c.args.out.now.items (steps_from 0 (filter test (take c.loop-m.m-index moves)))
+          (steps_from 0 (item ∷ []))
           ∙ ap (λ (xs : List Step). c.args.out.now.items ++ xs)
-          (sym (singles-more test moves c.loop-m.m-index blank c.loop-m-test.true (sym c.is_listed.ensures ∙ w.if-is_listed.true)))
+          (sym (singles-more test moves c.loop-m.m-index blank c.loop-m-test.true
+          (sym c.is_listed.ensures ∙ w.if-is_listed.true)))
       | else-is_listed w ↦
           rw w.out-is c.loop-m.invariant
           ∙ ap (λ (xs : List Step). c.args.out.now.items ++ xs)
-          (sym (singles-none test moves c.loop-m.m-index blank c.loop-m-test.true (sym c.is_listed.ensures ∙ w.if-is_listed.false)))
+          (sym (singles-none test moves c.loop-m.m-index blank c.loop-m-test.true
+          (sym c.is_listed.ensures ∙ w.if-is_listed.false)))
     ]
 
 pub returns-clause-ok : goal.returns-clause-ok
@@ -43,5 +47,6 @@ pub returns-in_err-push_single-clause-begun : goal.returns-in_err-push_single-cl
 returns-in_err-push_single-clause-begun c =
     search (
       rules,
-      begun-more c.args.out.now.items _ c.loop-m.out.items c.push_single.new.out.items c.loop-m.invariant c.in_err-push_single.ensures.begun,
+      begun-more c.args.out.now.items _ c.loop-m.out.items c.push_single.new.out.items c.loop-m.invariant
+          c.in_err-push_single.ensures.begun,
     )

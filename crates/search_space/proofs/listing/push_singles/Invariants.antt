@@ -5,4 +5,5 @@ use Rattle.search_space.proofs.listing.push_singles.Given as goal
 
 abbrev pub invariant-loop-m : goal.invariant-loop-m
 invariant-loop-m l =
-    l.out.items ≡ l.initial.out.items ++ steps_from 0 (filter (λ m. l.fn.all || is_from_elsewhere m) (take l.m-index l.moves))
+    l.out.items ≡ l.initial.out.items
+    ++ steps_from 0 (filter (λ m. l.fn.all || is_from_elsewhere m) (take l.m-index l.moves))

@@ -17,7 +17,9 @@ returns-clause-listed c =
     let rules = c.args.rules.now in
     let board = board_of c.args.packed.now in
     let listed : c.as_slice.result.now ≡ legal_moves rules board = c.as_slice.ensures.value ∙ c.in_ok-moves.ensures in
-    let none : find is_carry_home (legal_moves rules board) ≡ None = ap (find is_carry_home) (sym listed) ∙ sym c.in-None.ensures in
+    let none : find is_carry_home (legal_moves rules board) ≡ None = ap (find is_carry_home) (sym listed)
+    ∙ sym c.in-None.ensures in
     let free : free_steps rules board ≡ narrow_steps rules AutoFoundations board =
     sym (ap (λ (o : Option Move). forced_or o (steps rules board)) none ∙ steps-free rules board none) in
-    subst (λ (xs : List Step). OnOk c.list_free_steps.result (c.list_free_steps.new.out.items ≡ c.args.out.now.items ++ xs)) free c.list_free_steps.ensures.listed
+    subst (λ (xs : List Step). OnOk c.list_free_steps.result
+    (c.list_free_steps.new.out.items ≡ c.args.out.now.items ++ xs)) free c.list_free_steps.ensures.listed

@@ -1,4 +1,5 @@
-use Rattle.std.proofs.Common.{IsPermutation, ◌≡◌, ℕ, ◌-◌, List, [], ◌++◌, take, drop, ap, ◌∙◌, length, arith, take_all, append-nil}
+use Rattle.std.proofs.Common.{IsPermutation, ◌≡◌, ℕ, ◌-◌, List, [], ◌++◌, take, drop, ap, ◌∙◌, length, arith}
+use Rattle.std.proofs.Common.{take_all, append-nil}
 use Rattle.std.proofs.lemmas.List.{drop_all}
 use Rattle.std.proofs.lemmas.List.Sorted.{length_permutation}
 use Rattle.rand_core.specs.Steps.{stream_of, steps_u32}
@@ -17,7 +18,8 @@ shuffle-requires c =
     omega (arith, few, deck, slice)
 
 -- what comes back from the borrow is the whole deck
-borrowed : (len : ℕ) (deck slice new : List Card) → len ≡ length deck → slice ≡ deck → IsPermutation slice new → take len (new ++ drop (length new) deck) ≡ new
+borrowed : (len : ℕ) (deck slice new : List Card) → len ≡ length deck → slice ≡ deck → IsPermutation slice new
+    → take len (new ++ drop (length new) deck) ≡ new
 borrowed len deck slice new all same moved =
     let long : length new ≡ length slice = length_permutation slice new moved in
     let lent : length slice ≡ length deck = ap length same in
@@ -29,9 +31,11 @@ pub returns-clause-deck : goal.returns-clause-deck
 unfolding shuffled_deck
 returns-clause-deck c =
     let back = borrowed _ _ _ _ c.in_ok-deck.deck.ok.0 c.as_mut_slice.ensures.value c.shuffle.ensures.cards in
-    let words = ap (λ (w : Lcg). shuffled (stream_of (steps_u32 pcg32) w) (length c.as_mut_slice.result.now - 1) c.as_mut_slice.result.now) c.new-words.ensures in
+    let words = ap (λ (w : Lcg). shuffled (stream_of (steps_u32 pcg32) w)
+    (length c.as_mut_slice.result.now - 1) c.as_mut_slice.result.now) c.new-words.ensures in
     let deck = c.as_mut_slice.ensures.value ∙ c.in_ok-deck.ensures in
-    back ∙ c.shuffle.ensures.order ∙ words ∙ ap (λ (xs : List Card). shuffled (words_of c.args.seed) (length xs - 1) xs) deck
+    back ∙ c.shuffle.ensures.order ∙ words
+    ∙ ap (λ (xs : List Card). shuffled (words_of c.args.seed) (length xs - 1) xs) deck
 
 pub returns-clause-few : goal.returns-clause-few
 returns-clause-few c =

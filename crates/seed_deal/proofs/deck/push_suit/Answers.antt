@@ -10,5 +10,6 @@ loop-place-preserved c =
     let more = map-range_with_len_more card_at 0 c.loop-place.place c.loop-place.place (omega arith) in
     c.in_ok-push.ensures.items
     ∙ ap₂ (λ (xs : List Card) (x : Card). xs ++ x ∷ []) c.loop-place.invariant c.card_at.ensures
-    ∙ append_assoc c.args.deck.now.items (map card_at (range_with_len 0 c.loop-place.place)) (card_at c.loop-place.place ∷ [])
+    ∙ append_assoc c.args.deck.now.items (map card_at (range_with_len 0 c.loop-place.place))
+    (card_at c.loop-place.place ∷ [])
     ∙ ap (λ (xs : List Card). c.args.deck.now.items ++ xs) (sym more)

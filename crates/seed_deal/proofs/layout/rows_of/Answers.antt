@@ -12,7 +12,8 @@ loop-init c =
     let none : 0 * c.args.rules.now.max_rank ≡ 0 = omega arith in
     record {
       rows = c.new-rows.ensures;
-      rest = c.as_slice-rest.ensures.value ∙ c.in_ok-slots.ensures ∙ sym (ap (λ (n : ℕ). drop n (map slot_for c.args.deck.now)) none);
+      rest = c.as_slice-rest.ensures.value ∙ c.in_ok-slots.ensures
+          ∙ sym (ap (λ (n : ℕ). drop n (map slot_for c.args.deck.now)) none);
     }
 
 pub loop-preserved : goal.loop-preserved
@@ -21,11 +22,15 @@ loop-preserved c =
     let k : ℕ = c.loop.counter in
     let slots : List (Option Card) = map slot_for c.args.deck.now in
     let n_is = c.from.ensures ∙ c.max_rank.ensures.value in
-    let row = c.in_ok-from_slice.ensures ∙ c.split.ensures.front ∙ ap₂ (λ (n : ℕ) (xs : List (Option Card)). take n xs) n_is c.loop.invariant.rest in
+    let row = c.in_ok-from_slice.ensures ∙ c.split.ensures.front
+    ∙ ap₂ (λ (n : ℕ) (xs : List (Option Card)). take n xs) n_is c.loop.invariant.rest in
     let further : k * m + m ≡ (k + 1) * m = omega arith in
     record {
-      rows = c.in_ok-push.ensures.ok ∙ ap₂ (λ (xs : List (List (Option Card))) (x : List (Option Card)). xs ++ x ∷ []) c.loop.invariant.rows row
-          ∙ sym (map-range_with_len_more (row_at c.args.rules.now (laid_in_rows c.args.rules.now c.args.deck.now)) 0 k k (omega arith));
-      rest = c.split.ensures.rest ∙ ap₂ (λ (n : ℕ) (xs : List (Option Card)). drop n xs) n_is c.loop.invariant.rest ∙ drop-drop m (k * m) slots
+      rows = c.in_ok-push.ensures.ok ∙ ap₂ (λ (xs : List (List (Option Card))) (x : List (Option Card)). xs ++ x ∷ [])
+          c.loop.invariant.rows row
+          ∙ sym (map-range_with_len_more (row_at c.args.rules.now (laid_in_rows c.args.rules.now c.args.deck.now)) 0
+          k k (omega arith));
+      rest = c.split.ensures.rest ∙ ap₂ (λ (n : ℕ) (xs : List (Option Card)). drop n xs) n_is c.loop.invariant.rest
+          ∙ drop-drop m (k * m) slots
           ∙ ap (λ (n : ℕ). drop n slots) further;
     }

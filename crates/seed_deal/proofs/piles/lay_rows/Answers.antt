@@ -15,14 +15,16 @@ pub loop-pile-preserved : goal.loop-pile-preserved
 loop-pile-preserved c = record {
   all = length-grown _ _ _ _ c.in_ok-lay_on.ensures.laid ∙ c.loop-pile.invariant.all;
   lays = row-more c.args.piles c.loop-row.row c.loop-pile.pile _ _ _ _ _ _ _ _ (omega arith) c.in-Some.ensures.cases.0
-      (c.in_ok-lay_on.ensures.laid ∙ ap (λ (p : ℕ). set c.loop-pile.tableau.items p (get_or c.loop-pile.tableau.items p [] ++ c.in-Some.card.now ∷ [])) c.from.ensures)
+      (c.in_ok-lay_on.ensures.laid ∙ ap (λ (p : ℕ). set c.loop-pile.tableau.items p
+      (get_or c.loop-pile.tableau.items p [] ++ c.in-Some.card.now ∷ [])) c.from.ensures)
       c.loop-pile.invariant.lays;
 }
 
 pub loop-row-preserved : goal.loop-row-preserved
 loop-row-preserved c = record {
   all = c.loop-pile.invariant.all;
-  lays = lays_same _ _ _ _ _ _ _ (row-ends c.args.piles c.loop-row.row c.loop-pile.pile (omega arith)) c.loop-pile.invariant.lays;
+  lays = lays_same _ _ _ _ _ _ _ (row-ends c.args.piles c.loop-row.row c.loop-pile.pile (omega arith))
+      c.loop-pile.invariant.lays;
 }
 
 pub returns-in_default-clause-laid : goal.returns-in_default-clause-laid
@@ -31,4 +33,5 @@ returns-in_default-clause-laid c =
     let piles : ℕ = c.args.piles in
     let whole : piles - 0 ≡ piles = omega arith in
     (cards-end _ _ _ _ _ _ none c.loop-pile.invariant.lays).0
-    ∙ ap (λ (n : ℕ). laid_on (flat_map (λ (row : ℕ). range_with_len row (piles - row)) (range_with_len 0 n)) c.args.cards.now c.args.tableau.now.items) whole
+    ∙ ap (λ (n : ℕ). laid_on (flat_map (λ (row : ℕ). range_with_len row (piles - row)) (range_with_len 0 n))
+    c.args.cards.now c.args.tableau.now.items) whole

@@ -11,5 +11,6 @@ invariant-loop-row l = record {
 abbrev pub invariant-loop-pile : goal.invariant-loop-pile
 invariant-loop-pile l = record {
   all : length l.tableau.items ≡ l.piles;
-  lays : LaysAs (row_from l.piles l.row l.pile) l.rest l.tableau.items (rows_from l.piles 0) l.fn.cards l.fn.tableau.items;
+  lays : LaysAs (row_from l.piles l.row l.pile) l.rest l.tableau.items
+      (rows_from l.piles 0) l.fn.cards l.fn.tableau.items;
 }

@@ -7,8 +7,10 @@ use Rattle.seed_deal.proofs.piles.piles_laid.Goals.{then-piles-gt0+in_ok-lay_all
 
 pub returns : goal.returns
 returns c = elim c.if-piles-gt0.branch [
-  | then-piles-gt0+in_ok-lay_all w ↦ c.from_vec.ensures ∙ ap (λ (v : Vec (List Card) Global). v.items) w.tableau-is ∙ w.in_ok-lay_all.ensures
+  | then-piles-gt0+in_ok-lay_all w ↦ c.from_vec.ensures ∙ ap (λ (v : Vec (List Card) Global). v.items) w.tableau-is
+      ∙ w.in_ok-lay_all.ensures
       ∙ ap (λ (ps : List (List Card)). all_laid c.args.layout c.args.piles c.args.cards.now ps) c.in_ok-tableau.ensures
-  | else-piles-gt0 w ↦ c.from_vec.ensures ∙ ap (λ (v : Vec (List Card) Global). v.items) w.tableau-is ∙ c.in_ok-tableau.ensures
+  | else-piles-gt0 w ↦ c.from_vec.ensures ∙ ap (λ (v : Vec (List Card) Global). v.items) w.tableau-is
+      ∙ c.in_ok-tableau.ensures
       ∙ sym (piles_laid-none c.args.layout c.args.piles c.args.cards.now w.if-piles-gt0.false)
 ]

@@ -17,7 +17,8 @@ loop-last-preserved g c =
     let place = c.chosen_place.ensures.place ∙ ap (λ (w : ℕ). chosen_place w last) word in
     let exchanged = c.swap.ensures.after ∙ ap (λ (p : ℕ). swap cards last p) place in
     record {
-      order = ap₂ (λ (s : Stream) (xs : List Card). shuffled s (last - 1) xs) left exchanged ∙ sym step ∙ c.loop-last.invariant.order;
+      order = ap₂ (λ (s : Stream) (xs : List Card). shuffled s (last - 1) xs) left exchanged ∙ sym step
+          ∙ c.loop-last.invariant.order;
       cards = IsPermutation-trans _ _ _ c.loop-last.invariant.cards c.swap.ensures.permutation;
       within = omega (arith, c.swap.ensures.len);
     }

@@ -16,9 +16,11 @@ line_of-requires-clause-made c =
     let start : Board = c.args.start.now in
     let limits : Limits = c.args.limits.now in
     let answer = narrow_answer_of rules _ limits.way _ start _ limits.cache limits.narrow c.in-Ok.searched.nodes
-    (found.Won c.in-Won.trail) _ c.new-space.ensures.rules c.new-space.ensures.way c.new-space.ensures.stands c.in-Won.is c.in-Ok.ensures.answer in
+    (found.Won c.in-Won.trail) _ c.new-space.ensures.rules c.new-space.ensures.way c.new-space.ensures.stands
+    c.in-Won.is c.in-Ok.ensures.answer in
     subst (CanAllBeMade rules start) (sym c.items.ensures)
-    (narrow_made rules limits.way start c.parts.ensures.playable c.requires.belongs limits.cache limits.narrow c.in-Ok.searched.nodes c.in-Won.trail answer)
+    (narrow_made rules limits.way start c.parts.ensures.playable c.requires.belongs limits.cache limits.narrow
+    c.in-Ok.searched.nodes c.in-Won.trail answer)
 
 pub returns-in_ok-line-in-Won : goal.returns-in_ok-line-in-Won
 returns-in_ok-line-in-Won c =
@@ -26,11 +28,14 @@ returns-in_ok-line-in-Won c =
     let start : Board = c.args.start.now in
     let limits : Limits = c.args.limits.now in
     let answer = narrow_answer_of rules _ limits.way _ start _ limits.cache limits.narrow c.in-Ok.searched.nodes
-    (found.Won c.in-Won.trail) _ c.new-space.ensures.rules c.new-space.ensures.way c.new-space.ensures.stands c.in-Won.is c.in-Ok.ensures.answer in
-    let win = narrow_win rules limits.way start c.parts.ensures.playable c.requires.belongs limits.cache limits.narrow c.in-Ok.searched.nodes
+    (found.Won c.in-Won.trail) _ c.new-space.ensures.rules c.new-space.ensures.way c.new-space.ensures.stands
+    c.in-Won.is c.in-Ok.ensures.answer in
+    let win = narrow_win rules limits.way start c.parts.ensures.playable c.requires.belongs limits.cache limits.narrow
+    c.in-Ok.searched.nodes
     c.in-Ok.ensures.within c.in-Won.trail answer in (
       c.if-limits-eq0.false,
-      subst (λ line. FindsWin (narrow_game rules limits.way) rules start limits.cache limits.narrow line c.in-Ok.searched.nodes)
+      subst (λ line.
+          FindsWin (narrow_game rules limits.way) rules start limits.cache limits.narrow line c.in-Ok.searched.nodes)
           (sym (c.in_ok-line-in-Won.ensures ∙ ap (expand_trail rules start) c.items.ensures)) win,
     )
 
@@ -40,7 +45,8 @@ returns-in-Exhausted c =
     let start : Board = c.args.start.now in
     let limits : Limits = c.args.limits.now in
     let answer = narrow_answer_of rules _ limits.way _ start _ limits.cache limits.narrow c.in-Ok.searched.nodes
-    found.Exhausted _ c.new-space.ensures.rules c.new-space.ensures.way c.new-space.ensures.stands c.in-Exhausted.is c.in-Ok.ensures.answer in
+    found.Exhausted _ c.new-space.ensures.rules c.new-space.ensures.way c.new-space.ensures.stands c.in-Exhausted.is
+    c.in-Ok.ensures.answer in
     inr (
       c.if-limits-eq0.false,
       narrow_closed rules limits.way start c.parts.ensures.playable c.requires.belongs limits.cache limits.narrow
@@ -53,7 +59,8 @@ returns-in-SpentAll c =
     let start : Board = c.args.start.now in
     let limits : Limits = c.args.limits.now in
     let answer = narrow_answer_of rules _ limits.way _ start _ limits.cache limits.narrow c.in-Ok.searched.nodes
-    found.SpentAll _ c.new-space.ensures.rules c.new-space.ensures.way c.new-space.ensures.stands c.in-SpentAll.is c.in-Ok.ensures.answer in
+    found.SpentAll _ c.new-space.ensures.rules c.new-space.ensures.way c.new-space.ensures.stands c.in-SpentAll.is
+    c.in-Ok.ensures.answer in
     inr (
       c.if-limits-eq0.false,
       narrow_spent rules limits.way start c.parts.ensures.playable c.requires.belongs limits.cache limits.narrow

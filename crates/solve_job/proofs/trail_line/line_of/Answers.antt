@@ -30,11 +30,14 @@ loop-step-preserved c =
     let rest : List Step = drop (i + 1) trail in
     let here : Board = board_of c.loop-step.packed in
     let split : drop i trail ≡ step ∷ rest = drop-step trail i blank c.loop-step-test.true in
-    let made : CanAllBeMade rules here (step ∷ rest) = subst (λ (ts : List Step). CanAllBeMade rules here ts) split c.loop-step.invariant.1 in
+    let made : CanAllBeMade rules here (step ∷ rest) = subst (λ (ts : List Step). CanAllBeMade rules here ts) split
+    c.loop-step.invariant.1 in
     let there : board_of c.go.new.self ≡ after_step rules here step =
     c.go.ensures.moved ∙ ap (λ (b : Board). after rules b step.last) c.run_stock.ensures.moved in (
       c.go.ensures.belongs,
       subst (λ (b : Board). CanAllBeMade rules b rest) (sym there) made.1,
-      moves-more rules here (board_of c.go.new.self) step rest (drop i trail) c.loop-step.moves.items c.expand.new.out.items
-          (expand_trail rules c.args.start.now trail) split there c.in_ok-expand.ensures.expanded c.loop-step.invariant.2,
+      moves-more rules here (board_of c.go.new.self) step rest
+          (drop i trail) c.loop-step.moves.items c.expand.new.out.items
+          (expand_trail rules c.args.start.now trail) split there c.in_ok-expand.ensures.expanded
+          c.loop-step.invariant.2,
     )

@@ -8,4 +8,5 @@ abbrev pub invariant-loop-step : goal.invariant-loop-step
 invariant-loop-step l =
     Belongs l.rules (board_of l.packed)
     × CanAllBeMade l.rules (board_of l.packed) (drop l.step-index l.trail)
-    × (l.moves.items ++ expand_trail l.rules (board_of l.packed) (drop l.step-index l.trail) ≡ expand_trail l.rules l.start l.trail)
+    × (l.moves.items ++ expand_trail l.rules (board_of l.packed)
+    (drop l.step-index l.trail) ≡ expand_trail l.rules l.start l.trail)

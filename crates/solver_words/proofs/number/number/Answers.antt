@@ -18,6 +18,7 @@ returns-else-eq c = sym (number_none c.args.text.now (λ n small is.
     let parsed = parse-decimal 64 n c.args.text.now c.parse.result small small is c.parse.ensures.value.0 in
     let was = c.in-Ok.is in
     let number : c.in-Ok.number ≡ n = cc in
-    let same = (bytes_eq-Decides c.format.result.now c.args.text.now).1 (c.format.ensures.text ∙ ap decimal number ∙ sym is) in
+    let same = (bytes_eq-Decides c.format.result.now c.args.text.now).1
+    (c.format.ensures.text ∙ ap decimal number ∙ sym is) in
     let differ : false ≡ true = c.if-eq.ensures ∙ same in
     cc))

@@ -11,7 +11,8 @@ loop-option-preserved c =
     let second = c.in-Some-split_first.ensures.cases in (
       options_step c.args.taker at given c.in_ok-given.given c.in_ok-setting.setting _ _ _ _ _ first.0 second.0
           (sym (c.in_ok-setting.ensures ∙ ap (λ word. setting_at c.args.taker at word given) c.as_str.ensures.value))
-          (sym (c.in_ok-given.ensures ∙ ap (with_value (at + 1) c.in_ok-setting.setting given) c.as_str-in-Some.ensures.value))
+          (sym (c.in_ok-given.ensures
+          ∙ ap (with_value (at + 1) c.in_ok-setting.setting given) c.as_str-in-Some.ensures.value))
           ∙ c.loop-option.invariant.0,
       omega arith,
     )

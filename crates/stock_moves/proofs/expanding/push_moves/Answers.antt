@@ -1,4 +1,5 @@
-use Rattle.std.proofs.Common.{◌≡◌, ◌<◌, ℕ, ◌+◌, suc, List, [], ◌∷◌, ◌++◌, length, IsTrue, arith, ap, sym, ◌∙◌, append_assoc}
+use Rattle.std.proofs.Common.{◌≡◌, ◌<◌, ℕ, ◌+◌, suc, List, [], ◌∷◌, ◌++◌, length, IsTrue, arith, ap, sym}
+use Rattle.std.proofs.Common.{◌∙◌, append_assoc}
 use Rattle.std.proofs.lemmas.Bool.Decides.{nat_tests}
 use Rattle.game_rules.specs.declared.RuleParts.{RuleParts}
 use Rattle.game_rules.specs.declared.Move.{Move}
@@ -29,7 +30,8 @@ loop-made-preserved c =
           let none : length a.stock ≡ 0 = sym inv.1 ∙ grind (arith, nat_tests, w.if-stock-eq0.true) in
           let redeal = redeal-next rules a b to_waste next none in
           rw more (
-            moves-more rules made board Redeal c.args.out.now.items c.loop-made.out.items c.if-stock-eq0.out.items inv.0 redeal.0
+            moves-more rules made board Redeal c.args.out.now.items c.loop-made.out.items
+                c.if-stock-eq0.out.items inv.0 redeal.0
                 (rw w.out-is w.in_ok-push.ensures.items),
             w.stock-is
                 ∙ omega (arith, c.size.ensures, c.size-2.ensures)
@@ -40,7 +42,8 @@ loop-made-preserved c =
           let some : 0 < length a.stock = grind (arith, nat_tests, inv.1, w.if-stock-eq0.false) in
           let deal = deal-next rules a b to_waste next some in
           rw more (
-            moves-more rules made board Deal c.args.out.now.items c.loop-made.out.items c.if-stock-eq0.out.items inv.0 deal.0
+            moves-more rules made board Deal c.args.out.now.items c.loop-made.out.items
+                c.if-stock-eq0.out.items inv.0 deal.0
                 (rw w.out-is w.in_ok-push-2.ensures.items),
             rw (w.stock-is, w.saturating_sub-stock.ensures, w.draw.ensures, inv.1) (sym deal.1),
           )

@@ -12,8 +12,11 @@ returns-in-Times c =
     let rules : RuleParts = c.args.rules.now in
     let board : Board = board_of c.args.packed.now in
     let known : next_stock rules board ≡ Some c.in-Some.next = sym c.next_stock.ensures ∙ c.in-Some.is in
-    let counted : is_unlimited rules.redeals ≡ false = ap is_unlimited (sym c.redeals.ensures ∙ c.in-Times.is) in
-    (λ t. on-counted rules board c.args.first c.args.emptied c.in-Some.next c.requires.to_waste counted known, λ on. refl)
+    let counted : is_unlimited rules.redeals ≡ false = ap is_unlimited (sym c.redeals.ensures ∙ c.in-Times.is) in (
+      λ t.
+          on-counted rules board c.args.first c.args.emptied c.in-Some.next c.requires.to_waste counted known,
+      λ on. refl,
+    )
 
 pub returns-in-Unlimited : goal.returns-in-Unlimited
 returns-in-Unlimited c =
@@ -21,5 +24,6 @@ returns-in-Unlimited c =
     let board : Board = board_of c.args.packed.now in
     let known : next_stock rules board ≡ Some c.in-Some.next = sym c.next_stock.ensures ∙ c.in-Some.is in
     let unlimited : is_unlimited rules.redeals ≡ true = ap is_unlimited (sym c.redeals.ensures ∙ c.in-Unlimited.is) in
-    let decides = on-unlimited rules board c.args.first c.args.emptied c.in-Some.next c.requires.to_waste unlimited known in
+    let decides = on-unlimited rules board c.args.first c.args.emptied c.in-Some.next c.requires.to_waste
+    unlimited known in
     (λ t. decides.0 (c.is_other_length.ensures.0 t), λ on. c.is_other_length.ensures.1 (decides.1 on))

@@ -1,4 +1,5 @@
-use Rattle.std.proofs.Common.{rules, ◌≡◌, ◌≤◌, ℕ, ◌+◌, ◌<◌, suc, ◌||◌, ◌==◌, List, ◌++◌, length, arith, refl, ap, sym, ◌∙◌, subst, append-nil}
+use Rattle.std.proofs.Common.{rules, ◌≡◌, ◌≤◌, ℕ, ◌+◌, ◌<◌, suc, ◌||◌, ◌==◌, List, ◌++◌, length, arith, refl, ap, sym}
+use Rattle.std.proofs.Common.{◌∙◌, subst, append-nil}
 use Rattle.game_rules.specs.declared.RuleParts.{RuleParts}
 use Rattle.game_rules.specs.Board.{Board}
 use Rattle.packed_state.specs.Packed.{board_of}
@@ -22,7 +23,8 @@ loop-packed-init c =
       λ undo. refl,
       c.requires.belongs,
       c.in_ok-push_waste_carries.ensures.ok
-          ∙ ap (λ (xs : List Step). c.args.out.now.items ++ xs) (sym (append-nil (steps_from 0 (waste_carries rules board)))),
+          ∙ ap (λ (xs : List Step). c.args.out.now.items ++ xs)
+          (sym (append-nil (steps_from 0 (waste_carries rules board)))),
       omega arith,
     )
 
@@ -39,10 +41,12 @@ loop-packed-preserved c =
     let inv = c.loop-packed.invariant in
     let draws : 1 ≤ rules.draw = playable_draw rules c.parts.ensures.playable in
     let on : GoesOn rules (boards_of rules board deals) c.size-first.result c.loop-packed.emptied =
-    subst (λ (b : Board). GoesOn rules b c.size-first.result c.loop-packed.emptied) inv.1 (c.goes_on.ensures.0 c.loop-packed-test.true) in
+    subst (λ (b : Board). GoesOn rules b c.size-first.result c.loop-packed.emptied) inv.1
+    (c.goes_on.ensures.0 c.loop-packed-test.true) in
     let moved : board_of c.run_stock.new.self ≡ boards_of rules board (suc deals) =
     c.run_stock.ensures.moved ∙ board-more rules board (board_of c.loop-packed.packed) deals inv.1 in
-    let now : c.if-emptied.emptied ≡ (c.loop-packed.emptied || (length (boards_of rules board (suc deals)).stock == 0)) =
+    let now : c.if-emptied.emptied
+    ≡ (c.loop-packed.emptied || (length (boards_of rules board (suc deals)).stock == 0)) =
     elim c.if-emptied.branch [
       | then-emptied w ↦ rw (w.emptied-is, w.if-emptied.true) refl
       | else-emptied w ↦
@@ -52,12 +56,15 @@ loop-packed-preserved c =
     ] in
     let more : suc deals ≡ deals + 1 = omega arith in
     let short : suc deals < 8500 =
-    run_short rules board (suc deals) (boards_of rules board) c.parts.ensures.playable c.requires.belongs c.requires.to_waste
+    run_short rules board (suc deals) (boards_of rules board) c.parts.ensures.playable c.requires.belongs
+    c.requires.to_waste
     (run-more rules board deals c.size-first.result c.loop-packed.emptied draws c.requires.to_waste inv.0 on) in
-    let listed = listed-more rules board (board_of c.run_stock.new.self) deals c.args.out.now.items c.loop-packed.out.items
+    let listed = listed-more rules board (board_of c.run_stock.new.self) deals c.args.out.now.items
+    c.loop-packed.out.items
     c.push_waste_carries-in-loop-packed.new.out.items inv.4 moved c.in_ok-push_waste_carries-2.ensures.ok in
     rw (sym more) (
-      underway-next rules board deals c.size-first.result c.loop-packed.emptied c.if-emptied.emptied draws c.requires.to_waste inv.0 on now,
+      underway-next rules board deals c.size-first.result c.loop-packed.emptied c.if-emptied.emptied draws
+          c.requires.to_waste inv.0 on now,
       moved,
       λ undo. c.run_stock.ensures.same_notes undo ∙ inv.2 undo,
       c.run_stock.ensures.belongs,
@@ -88,7 +95,8 @@ returns-clause-listed c =
     let draws : 1 ≤ rules.draw = playable_draw rules c.parts.ensures.playable in
     let more : suc deals ≡ deals + 1 = omega arith in
     let ends : GoesOn rules (boards_of rules board deals) c.size-first.result c.loop-packed.emptied → ⊥ = λ on.
-    let true_now = c.goes_on.ensures.1 (subst (λ (b : Board). GoesOn rules b c.size-first.result c.loop-packed.emptied) (sym inv.1) on) in
+    let true_now = c.goes_on.ensures.1
+    (subst (λ (b : Board). GoesOn rules b c.size-first.result c.loop-packed.emptied) (sym inv.1) on) in
     let false_now = c.loop-packed-test.false in
     cc in
     inv.4

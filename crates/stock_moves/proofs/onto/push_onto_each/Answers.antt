@@ -9,7 +9,8 @@ pub returns-in_err-push_onto-clause-err : goal.returns-in_err-push_onto-clause-e
 returns-in_err-push_onto-clause-err c =
     search (
       rules,
-      StartsWith-append c.args.out.now.items _ c.loop-i.out.items c.push_onto.new.out.items c.loop-i.invariant c.in_err-push_onto.ensures.err,
+      StartsWith-append c.args.out.now.items _ c.loop-i.out.items c.push_onto.new.out.items c.loop-i.invariant
+          c.in_err-push_onto.ensures.err,
     )
 
 pub loop-i-preserved : goal.loop-i-preserved

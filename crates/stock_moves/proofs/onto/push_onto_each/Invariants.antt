@@ -7,4 +7,5 @@ use Rattle.stock_moves.proofs.onto.push_onto_each.Given as goal
 
 abbrev pub invariant-loop-i : goal.invariant-loop-i
 invariant-loop-i l =
-    l.out.items ≡ l.initial.out.items ++ flat_map (steps_onto l.rules (board_of l.packed) l.fn.deals) (map (place_in l.fn.kind) (range_with_len 0 l.i))
+    l.out.items ≡ l.initial.out.items ++ flat_map (steps_onto l.rules (board_of l.packed) l.fn.deals)
+    (map (place_in l.fn.kind) (range_with_len 0 l.i))

@@ -10,4 +10,5 @@ pub returns-clause-once : goal.returns-clause-once
 returns-clause-once c = stock_steps-apart
 
 pub returns-clause-order : goal.returns-clause-order
-returns-clause-order c = λ rules board playable to_waste. stock_steps-along rules board (playable_draw rules playable) to_waste
+returns-clause-order c = λ rules board playable to_waste.
+    stock_steps-along rules board (playable_draw rules playable) to_waste

@@ -9,7 +9,8 @@ returns-clause-exact c =
     let shelf = c.args.self.now in
     let name = c.args.name.now in
     let listed : next_is_listed shelf ≡ false =
-    ap (list_any (λ call. call == shelf.calls)) (sym c.deref.ensures.value) ∙ sym c.contains.ensures.value ∙ c.if-contains.false in
+    ap (list_any (λ call. call == shelf.calls)) (sym c.deref.ensures.value) ∙ sym c.contains.ensures.value
+    ∙ c.if-contains.false in
     let place = ap (position (is_named name)) (sym c.deref-2.ensures.value) ∙ sym c.place_of.ensures in
     ap (λ b. b || not (was_added shelf name)) listed
     ∙ not-is_some-file_bytes shelf.entries.items name

@@ -26,4 +26,5 @@ loop-back-preserved g c =
     ∙ ap (λ (bytes : List ℕ). c.entry_byte.result ∷ bytes) c.loop-back.invariant
     ∙ ap (λ (byte : ℕ). byte ∷ (row_bytes (drop (w - back) row) ++ c.args.bytes.now))
     (c.entry_byte.ensures ∙ ap entry_byte (c.slot.ensures ∙ sym here))
-    ∙ ap (λ (slots : List (Option Card)). row_bytes slots ++ c.args.bytes.now) (sym (drop-one_more row w back None long inside))
+    ∙ ap (λ (slots : List (Option Card)). row_bytes slots ++ c.args.bytes.now)
+    (sym (drop-one_more row w back None long inside))

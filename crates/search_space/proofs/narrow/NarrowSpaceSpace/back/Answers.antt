@@ -6,14 +6,19 @@ use Rattle.search_space.proofs.narrow.NarrowSpaceSpace.back.Goals as goal
 
 pub invariant_of-self : goal.invariant_of-self
 invariant_of-self c =
-    let some = subst (λ (s : NarrowStanding). IsSome (before_narrow c.args.undo s)) (sym c.self.view_is) c.requires in
-    (c.self.invariant.0, narrow_belongs-before c.self.inside.rules.now c.self.inside.way c.args.undo c.self.inside.packed c.back_step.new.packed c.self.invariant.0 some c.back_step.ensures)
+    let some = subst (λ (s : NarrowStanding). IsSome (before_narrow c.args.undo s)) (sym c.self.view_is) c.requires in (
+      c.self.invariant.0,
+      narrow_belongs-before c.self.inside.rules.now c.self.inside.way c.args.undo
+          c.self.inside.packed c.back_step.new.packed c.self.invariant.0 some c.back_step.ensures,
+    )
 
 pub returns : goal.returns
 returns c =
     let some = subst (λ (s : NarrowStanding). IsSome (before_narrow c.args.undo s)) (sym c.self.view_is) c.requires in
-    let belongs = narrow_belongs-before c.self.inside.rules.now c.self.inside.way c.args.undo c.self.inside.packed c.back_step.new.packed
+    let belongs = narrow_belongs-before c.self.inside.rules.now c.self.inside.way c.args.undo c.self.inside.packed
+    c.back_step.new.packed
     c.self.invariant.0 some c.back_step.ensures in
     sym (ap (before_narrow c.args.undo) c.self.view_is)
-    ∙ before_narrow-some c.self.inside.rules.now c.self.inside.way c.args.undo c.self.inside.packed c.back_step.new.packed
+    ∙ before_narrow-some c.self.inside.rules.now c.self.inside.way c.args.undo c.self.inside.packed
+    c.back_step.new.packed
     c.self.invariant.0 belongs c.back_step.ensures

@@ -8,7 +8,8 @@ use Rattle.search_space.proofs.narrow.NarrowSpaceSpace.steps.Goals as goal
 
 pub returns-clause-ok : goal.returns-clause-ok
 returns-clause-ok c =
-    subst (λ (s : NarrowStanding). OnOk c.list_narrow_or_leave.result (c.list_narrow_or_leave.new.out.items ≡ c.args.out.now.items ++ narrow_steps s.rules s.way (board_of s.packed)))
+    subst (λ (s : NarrowStanding). OnOk c.list_narrow_or_leave.result
+    (c.list_narrow_or_leave.new.out.items ≡ c.args.out.now.items ++ narrow_steps s.rules s.way (board_of s.packed)))
     c.self.view_is c.list_narrow_or_leave.ensures.listed
 
 pub returns-clause-differ : goal.returns-clause-differ

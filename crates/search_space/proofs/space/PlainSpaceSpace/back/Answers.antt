@@ -6,8 +6,11 @@ use Rattle.search_space.proofs.space.PlainSpaceSpace.back.Goals as goal
 
 pub invariant_of-self : goal.invariant_of-self
 invariant_of-self c =
-    let some = subst (λ (s : Standing). IsSome (before_of c.args.undo s)) (sym c.self.view_is) c.requires in
-    (c.self.invariant.0, belongs-before c.self.inside.rules.now c.args.undo c.self.inside.packed c.back_step.new.packed c.self.invariant.0 some c.back_step.ensures)
+    let some = subst (λ (s : Standing). IsSome (before_of c.args.undo s)) (sym c.self.view_is) c.requires in (
+      c.self.invariant.0,
+      belongs-before c.self.inside.rules.now c.args.undo c.self.inside.packed c.back_step.new.packed
+          c.self.invariant.0 some c.back_step.ensures,
+    )
 
 pub returns : goal.returns
 returns c =

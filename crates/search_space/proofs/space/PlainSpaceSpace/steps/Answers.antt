@@ -8,7 +8,8 @@ use Rattle.search_space.proofs.space.PlainSpaceSpace.steps.Goals as goal
 
 pub returns-clause-ok : goal.returns-clause-ok
 returns-clause-ok c =
-    subst (λ (s : Standing). OnOk c.list_or_leave.result (c.list_or_leave.new.out.items ≡ c.args.out.now.items ++ steps s.rules (board_of s.packed)))
+    subst (λ (s : Standing). OnOk c.list_or_leave.result
+    (c.list_or_leave.new.out.items ≡ c.args.out.now.items ++ steps s.rules (board_of s.packed)))
     c.self.view_is c.list_or_leave.ensures.listed
 
 pub returns-clause-differ : goal.returns-clause-differ
