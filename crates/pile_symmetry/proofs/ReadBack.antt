@@ -41,84 +41,32 @@ first-back n xs r e = ap (λ (k : ℕ). take k (xs ++ r)) (sym e) ∙ take-appen
 rest-back : (n : ℕ) (xs r : List ℕ) → length xs ≡ n → drop n (xs ++ r) ≡ r
 rest-back n xs r e = ap (λ (k : ℕ). drop k (xs ++ r)) (sym e) ∙ drop-append_seam xs r
 
-said-same : (left : ℕ) (a b c d e f g a' b' c' d' e' f' g' : List ℕ) → a ≡ a' → b ≡ b' → c ≡ c' → d ≡ d'
-    → e ≡ e' → f ≡ f' → g ≡ g'
-    → (let s : Said = record {
-      redeals_left = left;
-      stock = a;
-      waste = b;
-      heights = c;
-      hole = d;
-      cells = e;
-      reserve = f;
-      rest = g;
-    } in s)
-    ≡ (let s : Said = record {
-      redeals_left = left;
-      stock = a';
-      waste = b';
-      heights = c';
-      hole = d';
-      cells = e';
-      reserve = f';
-      rest = g';
-    } in s)
-said-same left a b c d e f g a' b' c' d' e' f' g' pa pb pc pd pe pf pg =
-    ap₂ (λ (x y : List ℕ). let s : Said = record {
-      redeals_left = left;
-      stock = x;
-      waste = y;
-      heights = c;
-      hole = d;
-      cells = e;
-      reserve = f;
-      rest = g;
-    } in s) pa pb
-    ∙ ap₂ (λ (x y : List ℕ). let s : Said = record {
-      redeals_left = left;
-      stock = a';
-      waste = b';
-      heights = x;
-      hole = y;
-      cells = e;
-      reserve = f;
-      rest = g;
-    } in s) pc pd
-    ∙ ap₂ (λ (x y : List ℕ). let s : Said = record {
-      redeals_left = left;
-      stock = a';
-      waste = b';
-      heights = c';
-      hole = d';
-      cells = x;
-      reserve = y;
-      rest = g;
-    } in s) pe pf
-    ∙ ap (λ (x : List ℕ). let s : Said = record {
-      redeals_left = left;
-      stock = a';
-      waste = b';
-      heights = c';
-      hole = d';
-      cells = e';
-      reserve = f';
-      rest = x;
-    } in s) pg
+-- what a key says, from its parts
+abbrev said_of : ℕ → List ℕ → List ℕ → List ℕ → List ℕ → List ℕ → List ℕ → List ℕ → Said
+said_of left stock waste heights hole cells reserve rest = record {
+  redeals_left = left;
+  stock = stock;
+  waste = waste;
+  heights = heights;
+  hole = hole;
+  cells = cells;
+  reserve = reserve;
+  rest = rest;
+}
+
+said-same : (left : ℕ) {a b c d e f g : List ℕ} (a' b' c' d' e' f' g' : List ℕ) → a ≡ a' → b ≡ b' → c ≡ c'
+    → d ≡ d' → e ≡ e' → f ≡ f' → g ≡ g' → said_of left a b c d e f g ≡ said_of left a' b' c' d' e' f' g'
+said-same left {c = c} {d = d} {e = e} {f = f} {g = g} a' b' c' d' e' f' g' pa pb pc pd pe pf pg =
+    ap₂ (λ (x y : List ℕ). said_of left x y c d e f g) pa pb
+    ∙ ap₂ (λ (x y : List ℕ). said_of left a' b' x y e f g) pc pd
+    ∙ ap₂ (λ (x y : List ℕ). said_of left a' b' c' d' x y g) pe pf
+    ∙ ap (said_of left a' b' c' d' e' f') pg
 
 said-back : (rules : RuleParts) (left : ℕ) (stock waste heights hole cells reserve rest : List ℕ)
     → length heights ≡ foundation_count rules → length hole ≡ hole_size rules
-    → said rules (left
-    ∷ (counted stock ++ (counted waste ++ (heights ++ (hole ++ (counted cells ++ (counted reserve ++ rest)))))))
-    ≡ record {
-      redeals_left = left;
-      stock = stock;
-      waste = waste;
-      heights = heights;
-      hole = hole;
-      cells = cells;
-      reserve = reserve;
-      rest = rest;
-    }
+    → said rules
+    (left ∷ (counted stock ++ (counted waste ++ (heights ++ (hole ++ (counted cells ++ (counted reserve ++ rest)))))))
+    ≡ said_of left stock waste heights hole cells reserve rest
 said-back rules left stock waste heights hole cells reserve rest many size =
     let s₇ : List ℕ = counted reserve ++ rest in
     let s₆ : List ℕ = counted cells ++ s₇ in
@@ -132,7 +80,7 @@ said-back rules left stock waste heights hole cells reserve rest many size =
     ∙ rest-back (foundation_count rules) heights s₅ many in
     let e₆ : from_cells rules key ≡ s₆ = ap (drop (hole_size rules)) e₅ ∙ rest-back (hole_size rules) hole s₆ size in
     let e₇ : from_reserve rules key ≡ s₇ = ap after_counted e₆ ∙ after-back cells s₇ in
-    said-same left _ _ _ _ _ _ _ stock waste heights hole cells reserve rest
+    said-same left stock waste heights hole cells reserve rest
     (part-back stock s₃)
     (ap counted_part e₃ ∙ part-back waste s₄)
     (ap (take (foundation_count rules)) e₄ ∙ first-back (foundation_count rules) heights s₅ many)
