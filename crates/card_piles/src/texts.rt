@@ -79,8 +79,10 @@ pub fn text_of(card: Card) -> [u8; 2]
 
 /// A law of the texts: a card's text names that card, and beside it only `10` in place of `T` does.
 pub fn texts_name_cards()
-    ensures names_its_card { (card : CardValue) → IsRank card.rank → card_of_text (text_of_card card) ≡ Some card }
-    ensures names_real_cards { (text : List ℕ) (card : CardValue) → card_of_text text ≡ Some card → IsRank card.rank }
+    ensures names_its_card { (card : CardValue) → IsRank card.rank
+        → card_of_text (text_of_card card) ≡ Some card }
+    ensures names_real_cards { (text : List ℕ) (card : CardValue) → card_of_text text ≡ Some card
+        → IsRank card.rank }
     ensures no_other_two_bytes { (a b : ℕ) (card : CardValue)
         → card_of_text (a ∷ b ∷ []) ≡ Some card → a ∷ b ∷ [] ≡ text_of_card card }
     ensures no_other_text { (text : List ℕ) (card : CardValue)

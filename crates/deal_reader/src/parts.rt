@@ -31,7 +31,8 @@ fn lists<E: Entry>(
     part: Part,
     value: Option<&Value>,
 ) -> Result<Items<Items<E>>, DealFault>
-    ensures { IsReadAs result (or_default [] (lists_at part (E.read part)) (option_map (λ v. view v.now) value.entry)) }
+    ensures { IsReadAs result
+        (or_default [] (lists_at part (E.read part)) (option_map (λ v. view v.now) value.entry)) }
 {
     match value {
         Some(value) => entries::lists_at(alloc, part, value),

@@ -39,7 +39,8 @@ fn narrow_all(alloc: Global, numbers: &[u64]) -> Result<Items<u8>, AllocError>
 
 // All but the top of each pile.
 fn all_but_tops(alloc: Global, tableau: &[Items<Card>]) -> Result<Items<u8>, AllocError>
-    ensures { IfOk result (λ bytes. bytes ≡ map narrow (map (λ cards. length cards - 1) tableau.now)) }
+    ensures { IfOk result
+        (λ bytes. bytes ≡ map narrow (map (λ cards. length cards - 1) tableau.now)) }
 {
     let mut bytes = Items::new(alloc);
     for cards in tableau {

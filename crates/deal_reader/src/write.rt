@@ -74,7 +74,8 @@ fn piles_value(alloc: Global, rules: &Rules, board: &Board) -> Result<Value, All
 
 fn face_down_of(alloc: Global, rules: &Rules, board: &Board) -> Result<Vec<u8>, AllocError>
     requires { Belongs rules.now board.now }
-    ensures { IfOk result (λ numbers. numbers.items ≡ map (λ pile. pile.face_down) board.now.piles) }
+    ensures { IfOk result
+        (λ numbers. numbers.items ≡ map (λ pile. pile.face_down) board.now.piles) }
 {
     let mut numbers = Vec::new(alloc);
     for i in 0..rules.piles() {
@@ -150,7 +151,8 @@ fn cells_value(alloc: Global, rules: &Rules, board: &Board) -> Result<Value, All
 
 fn face_down_value(alloc: Global, rules: &Rules, board: &Board) -> Result<Value, AllocError>
     requires { Belongs rules.now board.now }
-    ensures { IfOk result (λ value. view value ≡ list_tree number_tree (map (λ pile. pile.face_down) board.now.piles)) }
+    ensures { IfOk result (λ value.
+        view value ≡ list_tree number_tree (map (λ pile. pile.face_down) board.now.piles)) }
 {
     let numbers = face_down_of(alloc, rules, board)?;
     numbers_value(alloc, numbers.as_slice())

@@ -38,7 +38,8 @@ pub trait Space {
     /// `Err`, and then the list is as before too.
     fn steps(&mut self, alloc: Global, out: &mut Vec<Self::Step>) -> Result<(), NoMemory>
         ensures same { self.new ≡ self.old }
-        ensures ok { OnOk result (out.new.items ≡ out.old.items ++ (play self.old).steps (state self.old)) }
+        ensures ok { OnOk result
+            (out.new.items ≡ out.old.items ++ (play self.old).steps (state self.old)) }
         ensures as_before { OnErr result (out.new.items ≡ out.old.items) }
         ensures differ { AllPairs (λ a b. a ≢ b) ((play self.old).steps (state self.old)) };
 

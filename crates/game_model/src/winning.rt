@@ -46,7 +46,8 @@ fn is_column_in_order<T: Table>(table: &T, start: u8, column: u8) -> bool
 fn is_row_in_order<T: Table>(rules: &Rules, table: &T, row: u8) -> bool
     requires slots { length (T.board table.now).slots ≡ 4 * rules.now.decks * rules.now.max_rank }
     requires row { row < 4 * rules.now.decks }
-    ensures { result ≡ is_in_sequence (take (rules.now.max_rank - 1) (row_at rules.now (T.board table.now) row)) }
+    ensures { result ≡ is_in_sequence
+        (take (rules.now.max_rank - 1) (row_at rules.now (T.board table.now) row)) }
 {
     let columns = rules.max_rank();
     let start = row * columns;

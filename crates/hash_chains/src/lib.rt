@@ -159,7 +159,8 @@ impl HashChains {
     pub fn next_with(&self, node: u32) -> u32
         requires some { 0 < node }
         requires within { node ≤ length self.now.hashes }
-        ensures { LastWith self.now.hashes (slice_index self.now.hashes (node - 1)) (node - 1) result }
+        ensures { LastWith self.now.hashes (slice_index self.now.hashes (node - 1))
+            (node - 1) result }
     {
         let hash = hash_at(&self.slots, node);
         find_from(&self.heads, &self.slots, next_at(&self.slots, node), hash)

@@ -10,7 +10,8 @@ use serde_json::{Map, Value};
 
 /// What stands at the key of a part, which may be absent.
 pub fn field<'v>(part: Option<&'v Value>, key: &str) -> Option<&'v Value>
-    ensures { option_map (λ v. view v.now) result ≡ field_of (option_map (λ v. view v.now) part.entry) key.now }
+    ensures { option_map (λ v. view v.now) result ≡ field_of
+        (option_map (λ v. view v.now) part.entry) key.now }
 {
     match part {
         Some(part) => part.get(key),
@@ -29,7 +30,8 @@ pub fn has_only_keys(value: &Value, keys: &[&str]) -> bool
 }
 
 fn are_known(members: &Map<String, Value>, keys: &[&str]) -> bool
-    ensures { result ≡ list_all (λ key. list_any (λ known. bytes_eq (string_bytes key) known.now) keys.now)
+    ensures { result ≡ list_all
+        (λ key. list_any (λ known. bytes_eq (string_bytes key) known.now) keys.now)
         (keys_of members.now) }
 {
     members.keys().all(|key| is_known(key.as_str(), keys))

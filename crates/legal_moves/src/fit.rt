@@ -68,7 +68,8 @@ fn on_card(rules: &Rules, lower: Card) -> CardSet
 
 /// The cards that fill a space.
 fn on_space(rules: &Rules) -> CardSet
-    ensures { (c : Card) → IsRank c.rank → has result c ≡ fills_space rules.now.spaces rules.now.max_rank c.rank }
+    ensures { (c : Card) → IsRank c.rank
+        → has result c ≡ fills_space rules.now.spaces rules.now.max_rank c.rank }
 {
     let max_rank = rules.max_rank();
     match rules.spaces() {
@@ -145,7 +146,8 @@ fn after(left: Option<Card>) -> CardSet
 /// The cards that fit a gap.
 fn in_gap<T: Table>(rules: &Rules, table: &T, i: u8) -> CardSet
     requires { i < length (T.board table.now).slots }
-    ensures { (c : Card) → IsRank c.rank → has result c ≡ fits_slot rules.now (T.board table.now) i c }
+    ensures { (c : Card) → IsRank c.rank
+        → has result c ≡ fits_slot rules.now (T.board table.now) i c }
 {
     if i % rules.max_rank() == 0 {
         with_rank(CardSet::none(), 2)

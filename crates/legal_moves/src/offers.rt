@@ -67,7 +67,8 @@ fn push_single<T: Table>(rules: &Rules, table: &T, from: Place, offers: &mut Off
 
 /// Appends what the places of a kind offer, other than piles.
 fn push_singles<T: Table>(rules: &Rules, table: &T, kind: Kind, n: u8, offers: &mut Offers)
-    requires here { (i : ℕ) → i < n → IsTrue (has_place rules.now (T.board table.now) (place_in kind i)) }
+    requires here { (i : ℕ) → i < n
+        → IsTrue (has_place rules.now (T.board table.now) (place_in kind i)) }
     requires no_pile { (i : ℕ) → takes_groups (place_in kind i) ≡ false }
     requires given { All (IsGiven rules.now (T.board table.now)) offers.old.items }
     requires room { array_vec_len offers.old + n ≤ 285 }
@@ -92,7 +93,8 @@ fn push_pile<T: Table>(rules: &Rules, table: &T, i: u8, offers: &mut Offers)
         ≡ legal_of rules.now (T.board table.now) offers.old.items to
         ++ legal_between rules.now (T.board table.now) to (Tableau i) }
     ensures given { All (IsGiven rules.now (T.board table.now)) offers.new.items }
-    ensures len { array_vec_len offers.new ≤ array_vec_len offers.old + length (pile_at (T.board table.now) i).cards }
+    ensures len { array_vec_len offers.new ≤ array_vec_len offers.old
+        + length (pile_at (T.board table.now) i).cards }
 {
     let most = most_given(rules, table, i);
     if most == 0 {
@@ -130,7 +132,8 @@ fn push_piles<T: Table>(rules: &Rules, table: &T, offers: &mut Offers)
     requires belongs { Belongs rules.now (T.board table.now) }
     requires empty { offers.old.items ≡ [] }
     ensures legal { (to : Place) → legal_of rules.now (T.board table.now) offers.new.items to
-        ≡ legal_to rules.now (T.board table.now) (map Tableau (range_with_len 0 rules.now.piles)) to }
+        ≡ legal_to rules.now (T.board table.now)
+        (map Tableau (range_with_len 0 rules.now.piles)) to }
     ensures given { All (IsGiven rules.now (T.board table.now)) offers.new.items }
     ensures len { array_vec_len offers.new ≤ 104 }
 {

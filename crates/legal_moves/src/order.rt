@@ -72,7 +72,8 @@ fn list_offers<T: Table>(
     requires here { IsTrue (has_place rules.now (T.board table.now) to) }
     requires fits { IfSome set (λ accepted. Fits rules.now (T.board table.now) to accepted) }
     requires given { All (IsGiven rules.now (T.board table.now)) offers.now }
-    ensures ok { OnOk result (out.new.items ≡ out.old.items ++ legal_of rules.now (T.board table.now) offers.now to) }
+    ensures ok { OnOk result
+        (out.new.items ≡ out.old.items ++ legal_of rules.now (T.board table.now) offers.now to) }
     ensures err { OnErr result (StartsWith out.new.items out.old.items) }
 {
     for offer in offers {
@@ -99,7 +100,8 @@ fn list_to<T: Table>(
     requires here { IsTrue (has_place rules.now (T.board table.now) to) }
     requires given { All (IsGiven rules.now (T.board table.now)) offers.now }
     requires free { All (λ offer. has_bit free offer.bit ≡ true) offers.now }
-    ensures ok { OnOk result (out.new.items ≡ out.old.items ++ legal_of rules.now (T.board table.now) offers.now to) }
+    ensures ok { OnOk result
+        (out.new.items ≡ out.old.items ++ legal_of rules.now (T.board table.now) offers.now to) }
     ensures err { OnErr result (StartsWith out.new.items out.old.items) }
 {
     if !is_asked_card_by_card(rules, to) {
@@ -122,7 +124,8 @@ fn list_onto<T: Table>(
     free: CardSet,
     out: &mut Vec<Move>,
 ) -> Result<(), AllocError>
-    requires here { (i : ℕ) → i < n → IsTrue (has_place rules.now (T.board table.now) (place_in kind i)) }
+    requires here { (i : ℕ) → i < n
+        → IsTrue (has_place rules.now (T.board table.now) (place_in kind i)) }
     requires given { All (IsGiven rules.now (T.board table.now)) offers.now }
     requires free { All (λ offer. has_bit free offer.bit ≡ true) offers.now }
     ensures ok { OnOk result (out.new.items ≡ out.old.items
@@ -138,7 +141,8 @@ fn list_onto<T: Table>(
 
 /// Whether no pile takes a card, be it empty or not.
 fn are_piles_closed(rules: &Rules) -> bool
-    ensures { result ≡ true → (top : Option Card) (card : Card) → goes_on_pile rules.now top card ≡ false }
+    ensures { result ≡ true → (top : Option Card) (card : Card)
+        → goes_on_pile rules.now top card ≡ false }
 {
     matches!(rules.build(), Build::NoBuild) && matches!(rules.spaces(), Spaces::NoFill)
 }
@@ -245,7 +249,8 @@ fn push_legal<T: Table>(
 /// Appends the legal moves.
 fn list_all<T: Table>(rules: &Rules, table: &T, out: &mut Vec<Move>) -> Result<(), AllocError>
     requires { Belongs rules.now (T.board table.now) }
-    ensures ok { OnOk result (out.new.items ≡ out.old.items ++ legal_moves rules.now (T.board table.now)) }
+    ensures ok { OnOk result
+        (out.new.items ≡ out.old.items ++ legal_moves rules.now (T.board table.now)) }
     ensures err { OnErr result (StartsWith out.new.items out.old.items) }
 {
     let mut offered = Offers::new();
@@ -264,7 +269,8 @@ pub fn list_moves_of<T: Table>(
     out: &mut Vec<Move>,
 ) -> Result<(), NoMemory>
     requires { Belongs rules.now (T.board table.now) }
-    ensures ok { OnOk result (out.new.items ≡ out.old.items ++ legal_moves rules.now (T.board table.now)) }
+    ensures ok { OnOk result
+        (out.new.items ≡ out.old.items ++ legal_moves rules.now (T.board table.now)) }
     ensures err { OnErr result (out.new.items ≡ out.old.items) }
 {
     let size = out.len();

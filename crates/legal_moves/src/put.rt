@@ -45,7 +45,8 @@ fn is_of(f: u8, rank: u8, card: Card) -> bool
 fn falls_in_suit<T: Table>(table: &T, i: u8, f: u8, count: u8) -> bool
     requires here { i < length (T.board table.now).piles }
     requires enough { count ≤ length (pile_at (T.board table.now) i).cards }
-    ensures { result ≡ falls_in_suit f count (top_part count (pile_at (T.board table.now) i).cards) }
+    ensures { result ≡ falls_in_suit f count
+        (top_part count (pile_at (T.board table.now) i).cards) }
 {
     let mut left = table.pile(i);
     for depth in 0..count {
@@ -65,7 +66,8 @@ fn falls_in_suit<T: Table>(table: &T, i: u8, f: u8, count: u8) -> bool
 /// Whether the cards are a whole run for an empty foundation.
 fn is_complete_run<T: Table>(rules: &Rules, table: &T, given: Offer, f: u8, height: u8) -> bool
     requires { IsGiven rules.now (T.board table.now) given }
-    ensures { result ≡ is_complete_run rules.now f height (taken rules.now (T.board table.now) given.from given.count) }
+    ensures { result ≡ is_complete_run rules.now f height
+        (taken rules.now (T.board table.now) given.from given.count) }
 {
     height == 0
         && given.count == rules.max_rank()

@@ -19,7 +19,8 @@ fn position_of(text: &[u8], byte: u8) -> Option<usize>
 pub fn split_once(text: &[u8], byte: u8) -> Option<(&[u8], &[u8])>
     ensures parts { MatchOption result
         (slice_split (λ b. b == byte) text.now ≡ text.now ∷ [])
-        (λ cut. slice_split (λ b. b == byte) text.now ≡ cut.0.now ∷ slice_split (λ b. b == byte) cut.1.now) }
+        (λ cut. slice_split (λ b. b == byte) text.now
+        ≡ cut.0.now ∷ slice_split (λ b. b == byte) cut.1.now) }
     ensures before { MatchOption result
         (before_first (λ b. b == byte) text.now ≡ text.now)
         (λ cut. before_first (λ b. b == byte) text.now ≡ cut.0.now) }
@@ -88,7 +89,8 @@ fn short_carry(from: &[u8], to: &[u8]) -> Option<Move>
 }
 
 fn long_carry(from: &[u8], to: &[u8], count: &[u8]) -> Option<Move>
-    ensures { result ≡ long_carry_of (place_of_text from.now) (place_of_text to.now) (number_of count.now) }
+    ensures { result ≡ long_carry_of (place_of_text from.now) (place_of_text to.now)
+        (number_of count.now) }
 {
     let from = place(from)?;
     let to = place(to)?;

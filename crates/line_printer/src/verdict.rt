@@ -42,7 +42,8 @@ fn winnable_text(
     narrow_nodes: u64,
 ) -> Result<Vec<u8>, NoMemory>
     ensures fits { IfOk result (λ text. Fitting moves.now nodes narrow_nodes) }
-    ensures text { IfOk result (λ text. text.items ≡ output_of (Verdict.Winnable moves.now nodes narrow_nodes)) }
+    ensures text { IfOk result
+        (λ text. text.items ≡ output_of (Verdict.Winnable moves.now nodes narrow_nodes)) }
 {
     let length = moves.len();
     let mut text = format!(in alloc;
@@ -75,7 +76,8 @@ fn undecided_text(alloc: Global, nodes: u64, narrow_nodes: u64) -> Result<Vec<u8
 /// 67,108,864 bytes, `read_line` reads that line from it.
 #[tactic(auto, unfolding(crate::specs::VerdictText::output_of))]
 pub fn write_verdict(alloc: Global, verdict: &Verdict) -> Result<Vec<u8>, NoMemory>
-    ensures reads_back { IfOk result (λ text. length text.items ≤ most_bytes → ReadsBack text.items verdict.now) }
+    ensures reads_back { IfOk result
+        (λ text. length text.items ≤ most_bytes → ReadsBack text.items verdict.now) }
     ensures text { IfOk result (λ text. text.items ≡ output_of verdict.now) }
 {
     match verdict {

@@ -12,7 +12,8 @@ use std::fmt::Write;
 
 fn push_place(text: &mut String, place: Place) -> Result<(), AllocError>
     ensures small { number_of_place place < 256 }
-    ensures pushed { IfOk result (λ _. string_bytes text.new ≡ string_bytes text.old ++ place_text place) }
+    ensures pushed { IfOk result
+        (λ _. string_bytes text.new ≡ string_bytes text.old ++ place_text place) }
 {
     match place {
         Place::Tableau(i) => write!(text, "t{i}"),
@@ -60,7 +61,8 @@ pub fn push_move(text: &mut String, m: Move) -> Result<(), AllocError>
 /// Appends the text of each move and a newline after it.
 pub fn push_moves(text: &mut String, moves: &[Move]) -> Result<(), AllocError>
     ensures small { IfOk result (λ _. All IsSmall moves.now) }
-    ensures pushed { IfOk result (λ _. string_bytes text.new ≡ string_bytes text.old ++ line_text moves.now) }
+    ensures pushed { IfOk result
+        (λ _. string_bytes text.new ≡ string_bytes text.old ++ line_text moves.now) }
 {
     for m in moves {
         push_move(text, *m)?;
@@ -72,7 +74,8 @@ pub fn push_moves(text: &mut String, moves: &[Move]) -> Result<(), AllocError>
 /// The text of a line of moves: each move's text and a newline. Where it has at most 67,108,864
 /// bytes, `read_line` reads it back.
 pub fn write_line(alloc: Global, moves: &[Move]) -> Result<Vec<u8>, NoMemory>
-    ensures reads_back { IfOk result (λ text. length text.items ≤ most_bytes → line_of text.items ≡ Ok moves.now) }
+    ensures reads_back { IfOk result
+        (λ text. length text.items ≤ most_bytes → line_of text.items ≡ Ok moves.now) }
     ensures text { IfOk result (λ text. text.items ≡ line_text moves.now) }
 {
     let mut text = String::new(alloc);

@@ -34,7 +34,8 @@ pub(crate) fn write_whole<W: Write>(
     faults: &mut u64,
 ) -> Result<(), SinkFailed>
     ensures whole { OnOk result (Appends (W.contents writer.old) (W.contents writer.new) piece.now) }
-    ensures part { OnErr result (AppendsPart (W.contents writer.old) (W.contents writer.new) piece.now) }
+    ensures part { OnErr result
+        (AppendsPart (W.contents writer.old) (W.contents writer.new) piece.now) }
     ensures raised { OnErr result (faults.new ≡ one_more faults.old) }
     ensures kept { OnOk result (faults.new ≡ faults.old) }
     ensures never_falls { faults.old ≤ faults.new }

@@ -109,7 +109,8 @@ impl Packed {
     pub(crate) fn go_carry(&mut self, rules: &Rules, from: Place, to: Place, count: u8) -> Undo
         requires belongs { Belongs rules.now (board_of self.old) }
         requires legal { IsTrue (is_legal_carry rules.now (board_of self.old) from to count) }
-        ensures moved { board_of self.new ≡ after rules.now (board_of self.old) (Move.Carry from to count) }
+        ensures moved { board_of self.new ≡ after rules.now (board_of self.old)
+            (Move.Carry from to count) }
         ensures stacked { is_stacked self.new ≡ is_stacked self.old }
         ensures can_go_back { before result self.new ≡ Some self.old }
         ensures belongs { Belongs rules.now (board_of self.new) }

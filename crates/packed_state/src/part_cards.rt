@@ -46,7 +46,8 @@ impl Packed {
     /// The cards of the place of a kind, and none when there is no such place.
     fn chain_at(&self, first: usize, i: u8, count: u8) -> Cards<'_>
         requires { first + count ≤ 315 }
-        ensures { result ≡ (if nat_lt i count then reverse (cards_at self.now (first + i)) else []) }
+        ensures { result
+            ≡ (if nat_lt i count then reverse (cards_at self.now (first + i)) else []) }
     {
         if i < count {
             self.chain(first + usize::from(i))

@@ -23,7 +23,8 @@ impl Packed {
         out: &mut Vec<Move>,
     ) -> Result<(), NoMemory>
         requires { Belongs rules.now (board_of self.now) }
-        ensures ok { OnOk result (out.new.items ≡ out.old.items ++ legal_moves rules.now (board_of self.now)) }
+        ensures ok { OnOk result
+            (out.new.items ≡ out.old.items ++ legal_moves rules.now (board_of self.now)) }
         ensures err { OnErr result (out.new.items ≡ out.old.items) }
     {
         list_moves_of(rules, self, out)

@@ -57,7 +57,8 @@ impl Packed {
     /// The card of an entry, which has none above it.
     fn entry_card(&self, first: usize, i: u8, count: u8, depth: u8) -> Option<Card>
         requires { first + count ≤ 315 }
-        ensures { result ≡ (if nat_lt i count then in_entry (top_of (cards_at self.now (first + i))) depth else None) }
+        ensures { result ≡ (if nat_lt i count
+            then in_entry (top_of (cards_at self.now (first + i))) depth else None) }
     {
         if i < count && depth == 0 {
             self.top_card(first + usize::from(i))

@@ -76,7 +76,8 @@ impl Packed {
     fn border_after(&self, rules: &Rules, k: u16) -> Border
         requires { HasStockMoves rules.now k (board_of self.now) }
         ensures fits { result.stock ≤ size_at self.now.links 89 + size_at self.now.links 88 }
-        ensures moved { board_of (cut_at result self.now) ≡ after_stock_moves rules.now k (board_of self.now) }
+        ensures moved { board_of (cut_at result self.now) ≡ after_stock_moves rules.now k
+            (board_of self.now) }
     {
         self.keep();
         let cards = self.links.size(STOCK) + self.links.size(WASTE);

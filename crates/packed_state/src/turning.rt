@@ -52,8 +52,10 @@ impl Packed {
     }
 
     fn deal_to_tableau(&mut self) -> Undo
-        ensures moved { self.new ≡ dealt self.old (min (size_at self.old.links 89) self.old.shape.piles) }
-        ensures noted { result ≡ Dealt ToTableau (min (size_at self.old.links 89) self.old.shape.piles) }
+        ensures moved { self.new ≡ dealt self.old
+            (min (size_at self.old.links 89) self.old.shape.piles) }
+        ensures noted { result ≡ Dealt ToTableau
+            (min (size_at self.old.links 89) self.old.shape.piles) }
     {
         let count = self.links.size(STOCK).min(self.shape.piles);
         self.links.deal_out(STOCK, count);
@@ -79,7 +81,8 @@ impl Packed {
 
     /// Makes the stock of the waste.
     fn turn_waste(&mut self, redeals_left: u8) -> Undo
-        ensures moved { self.new ≡ with_redeals (turned self.old 88 89 (size_at self.old.links 88)) redeals_left }
+        ensures moved { self.new ≡ with_redeals
+            (turned self.old 88 89 (size_at self.old.links 88)) redeals_left }
         ensures noted { result ≡ Redealt self.old.redeals_left }
     {
         let before = self.redeals_left;
@@ -93,7 +96,8 @@ impl Packed {
 
     /// Makes the waste of the stock again.
     fn unturn_waste(&mut self, redeals_left: u8)
-        ensures { self.new ≡ with_redeals (turned self.old 89 88 (size_at self.old.links 89)) redeals_left }
+        ensures { self.new ≡ with_redeals
+            (turned self.old 89 88 (size_at self.old.links 89)) redeals_left }
     {
         let count = self.links.size(STOCK);
         self.turn(STOCK, WASTE, count);

@@ -30,7 +30,8 @@ impl Packed {
     }
 
     fn tableau_of(&self, alloc: Global) -> Result<Items<Items<Card>>, AllocError>
-        ensures { IfOk result (λ lists. lists ≡ map (cards_at self.now) (range_with_len 0 self.now.shape.piles)) }
+        ensures { IfOk result
+            (λ lists. lists ≡ map (cards_at self.now) (range_with_len 0 self.now.shape.piles)) }
     {
         self.keep();
         let mut out = Items::new(alloc);
@@ -49,7 +50,8 @@ impl Packed {
     }
 
     fn face_down_of(&self, alloc: Global) -> Result<Items<u8>, AllocError>
-        ensures { IfOk result (λ numbers. numbers ≡ map (face_at self.now) (range_with_len 0 self.now.shape.piles)) }
+        ensures { IfOk result
+            (λ numbers. numbers ≡ map (face_at self.now) (range_with_len 0 self.now.shape.piles)) }
     {
         self.keep();
         let mut out = Items::new(alloc);
@@ -109,7 +111,8 @@ impl Packed {
     ) -> Result<Items<Items<Option<Card>>>, AllocError>
         requires { self.now.shape.slots ≡ row_count rules.now * rules.now.max_rank }
         ensures { IfOk result (λ rows.
-            rows ≡ map (row_at rules.now (board_of self.now)) (range_with_len 0 (row_count rules.now))) }
+            rows ≡ map (row_at rules.now (board_of self.now))
+            (range_with_len 0 (row_count rules.now))) }
     {
         let mut out = Items::new(alloc);
         for r in 0..rules.row_count() {

@@ -51,7 +51,8 @@ fn fetch_file<S: Shelf>(
     ensures files { S.files shelf.new ≡ S.files shelf.old }
     ensures never_falls { (other : List ℕ) → S.faults shelf.old other ≤ S.faults shelf.new other }
     ensures fetched { IfOk result (λ bytes. Fetches (S.files shelf.old) name.now limit [] bytes.items) }
-    ensures failed { IfErr result (Stops (IsFailure file (S.faults shelf.old name.now) (S.faults shelf.new name.now))) }
+    ensures failed { IfErr result
+        (Stops (IsFailure file (S.faults shelf.old name.now) (S.faults shelf.new name.now))) }
 {
     let mut bytes = Vec::new(alloc);
     match shelf.fetch(name, limit, &mut bytes) {

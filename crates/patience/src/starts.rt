@@ -45,7 +45,8 @@ pub fn fetch_start<S: Shelf>(
     requires { HasRules (S.files shelf.old) (texts words.now) (job_asked asked) rules.now }
     ensures files { S.files shelf.new ≡ S.files shelf.old }
     ensures never_falls { (name : List ℕ) → S.faults shelf.old name ≤ S.faults shelf.new name }
-    ensures accepted { IfOk result (HasStart (S.files shelf.old) (texts words.now) (job_asked asked) rules.now) }
+    ensures accepted { IfOk result
+        (HasStart (S.files shelf.old) (texts words.now) (job_asked asked) rules.now) }
     ensures belongs { IfOk result (Belongs rules.now) }
     ensures stopped { IfErr result (Stops (Explains
         (record { files = S.files shelf.old; before = S.faults shelf.old; after = S.faults shelf.new })

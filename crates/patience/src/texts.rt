@@ -30,7 +30,8 @@ pub fn usage(alloc: Global, fault: WordFault) -> Result<Report, AllocError>
 
 /// A file could not be fetched.
 pub fn failed(alloc: Global, file: FileRole) -> Result<Report, AllocError>
-    ensures { IfOk result (λ report. (report.status ≡ Status.ShelfFailed) × (report.text.items ≡ failed_text file)) }
+    ensures { IfOk result
+        (λ report. (report.status ≡ Status.ShelfFailed) × (report.text.items ≡ failed_text file)) }
 {
     let text = format!(in alloc; "failed {file}\n")?;
     Ok(Report {
@@ -113,7 +114,8 @@ pub fn ends_short(alloc: Global) -> Result<Report, AllocError>
 
 /// The moves lead to a won board.
 pub fn wins(alloc: Global, moves: usize) -> Result<Report, AllocError>
-    ensures { IfOk result (λ report. (report.status ≡ Status.Done) × (report.text.items ≡ wins_text moves)) }
+    ensures { IfOk result
+        (λ report. (report.status ≡ Status.Done) × (report.text.items ≡ wins_text moves)) }
 {
     let text = format!(in alloc; "wins\nmoves {moves}\n")?;
     Ok(Report {

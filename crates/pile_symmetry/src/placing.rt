@@ -76,7 +76,8 @@ fn piles_in(
     bytes: &[u8],
 ) -> Result<(Items<Items<Card>>, Items<u8>), AllocError>
     ensures tableau { IfOk result (λ piles. piles.0 ≡ map (λ pile. pile.cards) (piles_in n bytes.now)) }
-    ensures face_down { IfOk result (λ piles. piles.1 ≡ map (λ pile. pile.face_down) (piles_in n bytes.now)) }
+    ensures face_down { IfOk result
+        (λ piles. piles.1 ≡ map (λ pile. pile.face_down) (piles_in n bytes.now)) }
 {
     let mut tableau = Items::new(alloc);
     let mut downs = Items::new(alloc);

@@ -56,7 +56,8 @@ fn refused(fault: BoardFault) -> Result<(), NoMemory>
 /// order.
 pub fn board_of(alloc: Global, rules: &Rules, key: &Key) -> Result<Option<Board>, NoMemory>
     ensures belongs { IfOk result (λ found. IfSome found (λ board. Belongs rules.now board)) }
-    ensures has_key { IfOk result (λ found. IfSome found (λ board. key_bytes rules.now board ≡ key.now)) }
+    ensures has_key { IfOk result
+        (λ found. IfSome found (λ board. key_bytes rules.now board ≡ key.now)) }
     ensures in_order { IfOk result (λ found. IfSome found (λ board. IsInKeyOrder rules.now board)) }
     ensures none { IfOk result (λ found. found ≡ None → (board : Board) → Belongs rules.now board
         → key_bytes rules.now board ≡ key.now → ⊥) }

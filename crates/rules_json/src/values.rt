@@ -12,7 +12,8 @@ use serde_json::Value;
 
 /// The part is absent, or an object with these keys alone.
 pub fn check_part(value: Option<&Value>, part: RulePart, keys: &[&str]) -> Result<(), RulesFault>
-    ensures { result ≡ part_with part (map (λ key. key.now) keys.now) (option_map (λ v. view v.now) value.entry) }
+    ensures { result ≡ part_with part (map (λ key. key.now) keys.now)
+        (option_map (λ v. view v.now) value.entry) }
 {
     let Some(value) = value else {
         return Ok(());

@@ -18,7 +18,8 @@ ghost use Rattle.same_boards.specs.Colours.{SameColours, coloured, colour_key_by
 pub fn being_the_same_is_an_equivalence()
     ensures itself { (rules : RuleParts) (a : Board) → Same rules a a }
     ensures back { (rules : RuleParts) (a b : Board) → Same rules a b → Same rules b a }
-    ensures onward { (rules : RuleParts) (a b c : Board) → Same rules a b → Same rules b c → Same rules a c }
+    ensures onward { (rules : RuleParts) (a b c : Board) → Same rules a b → Same rules b c
+        → Same rules a c }
 {}
 
 /// Boards that are the same win within the same numbers of moves.
@@ -32,12 +33,14 @@ pub fn same_boards_win_alike()
 pub fn same_boards_move_alike()
     ensures moves { (rules : RuleParts) (a b : Board) (move : Move) → IsPlayable rules
         → Belongs rules a → Belongs rules b → Same rules a b → Legal rules a move
-        → (other : Move) × Legal rules b other × Same rules (after rules a move) (after rules b other) }
+        → (other : Move) × Legal rules b other × Same rules (after rules a move)
+        (after rules b other) }
 {}
 
 /// Two boards of the same rules have one key exactly if they are the same.
 pub fn keys_tell_boards_apart()
-    ensures key { (rules : RuleParts) (a b : Board) → IsPlayable rules → Belongs rules a → Belongs rules b
+    ensures key { (rules : RuleParts) (a b : Board) → IsPlayable rules
+        → Belongs rules a → Belongs rules b
         → (key_bytes rules a ≡ key_bytes rules b) ↔ Same rules a b }
 {}
 
@@ -66,7 +69,8 @@ pub fn a_colour_byte_tells_colour_and_rank()
 
 /// Two boards of the same rules have one colour key exactly if they are the same up to the suits of a colour.
 pub fn colour_keys_tell_boards_apart()
-    ensures key { (rules : RuleParts) (a b : Board) → IsPlayable rules → Belongs rules a → Belongs rules b
+    ensures key { (rules : RuleParts) (a b : Board) → IsPlayable rules
+        → Belongs rules a → Belongs rules b
         → (colour_key_bytes rules a ≡ colour_key_bytes rules b) ↔ SameColours rules a b }
 {}
 

@@ -28,7 +28,8 @@ pub fn the_plain_space_is_complete()
 
 /// A search compares two boards by their keys, and finds them equal exactly where the boards are the same.
 pub fn keys_compare_as_boards_do()
-    ensures { (rules : RuleParts) (a b : Board) → IsPlayable rules → Belongs rules a → Belongs rules b
+    ensures { (rules : RuleParts) (a b : Board) → IsPlayable rules
+        → Belongs rules a → Belongs rules b
         → (pointwise nat_eq (key_bytes rules a) (key_bytes rules b) ≡ true) ↔ Same rules a b }
 {}
 
@@ -41,9 +42,11 @@ pub fn well_boards_belong()
 
 /// Each step of a restricted search can be made, and is a line of its single moves.
 pub fn narrow_steps_are_lines()
-    ensures made { (rules : RuleParts) (way : Streamliner) (board : Board) (step : Step) → IsPlayable rules
+    ensures made { (rules : RuleParts) (way : Streamliner) (board : Board) (step : Step)
+        → IsPlayable rules
         → Contains (narrow_steps rules way board) step → CanBeMade rules board step }
-    ensures line { (rules : RuleParts) (way : Streamliner) (board : Board) (step : Step) → IsPlayable rules
+    ensures line { (rules : RuleParts) (way : Streamliner) (board : Board) (step : Step)
+        → IsPlayable rules
         → Contains (narrow_steps rules way board) step
         → Line rules board (expand rules board step) (after_step rules board step) }
 {}
@@ -54,5 +57,6 @@ pub fn narrow_keys_compare_as_boards_do()
     ensures alike { (rules : RuleParts) (way : Streamliner) → IsAlike (narrow_game rules way) }
     ensures keys { (rules : RuleParts) (way : Streamliner) (a b : Board) → IsPlayable rules
         → Belongs rules a → Belongs rules b
-        → (pointwise nat_eq (narrow_key rules way a) (narrow_key rules way b) ≡ true) ↔ NarrowSame rules way a b }
+        → (pointwise nat_eq (narrow_key rules way a) (narrow_key rules way b) ≡ true)
+        ↔ NarrowSame rules way a b }
 {}

@@ -78,7 +78,8 @@ pub(crate) fn list_free_steps(
 ) -> Result<(), NoMemory>
     requires belongs { Belongs rules.now (board_of packed.old) }
     requires moves { moves.now ≡ legal_moves rules.now (board_of packed.old) }
-    ensures listed { OnOk result (out.new.items ≡ out.old.items ++ free_steps rules.now (board_of packed.old)) }
+    ensures listed { OnOk result
+        (out.new.items ≡ out.old.items ++ free_steps rules.now (board_of packed.old)) }
     ensures begun { OnErr result (take (length out.old.items) out.new.items ≡ out.old.items) }
     ensures as_before { packed.new ≡ packed.old }
 {
@@ -113,7 +114,8 @@ pub(crate) fn list_steps(
     out: &mut Vec<Step>,
 ) -> Result<(), NoMemory>
     requires { Belongs rules.now (board_of packed.old) }
-    ensures listed { OnOk result (out.new.items ≡ out.old.items ++ steps rules.now (board_of packed.old)) }
+    ensures listed { OnOk result
+        (out.new.items ≡ out.old.items ++ steps rules.now (board_of packed.old)) }
     ensures begun { OnErr result (take (length out.old.items) out.new.items ≡ out.old.items) }
     ensures as_before { packed.new ≡ packed.old }
 {

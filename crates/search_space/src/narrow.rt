@@ -90,7 +90,8 @@ fn list_narrow_steps(
     out: &mut Vec<Step>,
 ) -> Result<(), NoMemory>
     requires { Belongs rules.now (board_of packed.old) }
-    ensures listed { OnOk result (out.new.items ≡ out.old.items ++ narrow_steps rules.now way (board_of packed.old)) }
+    ensures listed { OnOk result
+        (out.new.items ≡ out.old.items ++ narrow_steps rules.now way (board_of packed.old)) }
     ensures begun { OnErr result (take (length out.old.items) out.new.items ≡ out.old.items) }
     ensures as_before { packed.new ≡ packed.old }
 {
@@ -111,7 +112,8 @@ fn list_narrow_or_leave(
     out: &mut Vec<Step>,
 ) -> Result<(), NoMemory>
     requires { Belongs rules.now (board_of packed.old) }
-    ensures listed { OnOk result (out.new.items ≡ out.old.items ++ narrow_steps rules.now way (board_of packed.old)) }
+    ensures listed { OnOk result
+        (out.new.items ≡ out.old.items ++ narrow_steps rules.now way (board_of packed.old)) }
     ensures refused { OnErr result (out.new.items ≡ out.old.items) }
     ensures as_before { packed.new ≡ packed.old }
 {

@@ -47,7 +47,8 @@ impl<'a> PlainSpace<'a> {
         requires { Belongs rules.now start.now }
         ensures rules { result.rules ≡ rules.now }
         ensures stands { board_of result.packed ≡ start.now }
-        ensures complete { IsComplete (game_of (play_of rules.now) (pointwise nat_eq)) (Wins rules.now) start.now }
+        ensures complete { IsComplete (game_of (play_of rules.now) (pointwise nat_eq))
+            (Wins rules.now) start.now }
     {
         // This call brings that the rules are playable, which the space keeps.
         let _ = rules.parts();
@@ -66,7 +67,8 @@ fn list_or_leave(
     out: &mut Vec<Step>,
 ) -> Result<(), NoMemory>
     requires { Belongs rules.now (board_of packed.old) }
-    ensures listed { OnOk result (out.new.items ≡ out.old.items ++ steps rules.now (board_of packed.old)) }
+    ensures listed { OnOk result
+        (out.new.items ≡ out.old.items ++ steps rules.now (board_of packed.old)) }
     ensures refused { OnErr result (out.new.items ≡ out.old.items) }
     ensures as_before { packed.new ≡ packed.old }
 {

@@ -60,7 +60,8 @@ pub fn deal_from_seed(alloc: Global, rules: &Rules, seed: u64) -> Result<Board, 
     ensures board { IfOk result (λ board. board ≡ seed_board rules.now seed) }
     ensures right { IfOk result (λ board. seed_fault rules.now ≡ None) }
     ensures belongs { IfOk result (λ board. Belongs rules.now board) }
-    ensures fault { IfErr result (λ fault. (fault ≡ SeedFault.Memory) ⊎ (seed_fault rules.now ≡ Some fault)) }
+    ensures fault { IfErr result
+        (λ fault. (fault ≡ SeedFault.Memory) ⊎ (seed_fault rules.now ≡ Some fault)) }
 {
     read_start(&rules.parts());
     if let Some(fault) = seed_fault(rules) {

@@ -112,7 +112,8 @@ fn entries(alloc: Global, cards: &[Card]) -> Result<Vec<Option<Card>>, AllocErro
 /// Step 3: the cells, of which these cards fill the first.
 fn cells_with(alloc: Global, cells: u8, cards: &[Card]) -> Result<Items<Option<Card>>, AllocError>
     requires { length cards.now ≤ cells }
-    ensures { IfOk result (λ entries. entries ≡ filled cells None (map (λ card. Some card) cards.now)) }
+    ensures { IfOk result
+        (λ entries. entries ≡ filled cells None (map (λ card. Some card) cards.now)) }
 {
     let mut entries = entries(alloc, cards)?;
     entries.resize(usize::from(cells), None)?;

@@ -39,7 +39,8 @@ fn lay_rows<'a>(
     ensures laid { OnOk result (tableau.new.items ≡ laid_on
         (triangle_order Layout.Triangle piles) cards.now tableau.old.items) }
     ensures all { OnOk result (length tableau.new.items ≡ piles) }
-    ensures rest { IfOk result (λ rest. rest.now ≡ drop (length (triangle_order Layout.Triangle piles)) cards.now) }
+    ensures rest { IfOk result
+        (λ rest. rest.now ≡ drop (length (triangle_order Layout.Triangle piles)) cards.now) }
 {
     let mut rest = cards;
     for row in 0..piles {
@@ -119,7 +120,8 @@ pub fn face_down_of(
     tableau: &[Items<Card>],
 ) -> Result<Items<u8>, AllocError>
     requires { sum_by (λ cards. length cards) tableau.now ≤ 255 }
-    ensures { IfOk result (λ numbers. numbers ≡ map (λ cards. (turned face cards).face_down) tableau.now) }
+    ensures { IfOk result
+        (λ numbers. numbers ≡ map (λ cards. (turned face cards).face_down) tableau.now) }
 {
     let mut numbers = Items::new(alloc);
     for cards in tableau {

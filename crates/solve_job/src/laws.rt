@@ -12,7 +12,8 @@ ghost use Rattle.solve_job.specs.Verdicts.{IsVerdict, nodes_of, narrow_nodes_of}
 
 /// Winnable: each move of the line is legal where it is made, and the last board is won.
 pub fn winnable_means_that_the_line_wins()
-    ensures { (rules : RuleParts) (start : Board) (limits : Limits) (line : List Move) (nodes narrow_nodes : ℕ)
+    ensures { (rules : RuleParts) (start : Board) (limits : Limits) (line : List Move)
+        (nodes narrow_nodes : ℕ)
         → IsVerdict rules start limits (verdict.Winnable line nodes narrow_nodes)
         → (end : Board) × Line rules start line end × Won rules end }
 {}

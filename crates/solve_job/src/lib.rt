@@ -43,7 +43,8 @@ pub fn solve(
     ensures verdict { IfOk result (IsVerdict rules.now start.now limits.now) }
 
     // Where so few boards cover the game, the verdict is not undecided.
-    ensures decides { IsSmall rules.now start.now (min limits.now.nodes limits.now.cache) → IfOk result IsDecided }
+    ensures decides { IsSmall rules.now start.now (min limits.now.nodes limits.now.cache)
+        → IfOk result IsDecided }
 {
     match search_narrow(alloc, rules, start, limits)? {
         Narrowed::Won { line, nodes } => Ok(Verdict::Winnable {

@@ -25,7 +25,8 @@ pub fn search_plain(
     requires some_cache { 1 ≤ limits.now.cache }
     requires passed { IsPassed rules.now start.now limits.now narrow_nodes }
     ensures verdict { IfOk result (IsVerdict rules.now start.now limits.now) }
-    ensures decides { IsSmall rules.now start.now (min limits.now.nodes limits.now.cache) → IfOk result IsDecided }
+    ensures decides { IsSmall rules.now start.now (min limits.now.nodes limits.now.cache)
+        → IfOk result IsDecided }
 {
     // This call brings that the rules are playable.
     let _ = rules.parts();

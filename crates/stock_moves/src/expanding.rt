@@ -21,7 +21,8 @@ fn push_moves(
 ) -> Result<(), AllocError>
     requires belongs { Belongs rules.now (board_of before.now) }
     requires made { CanBeMade rules.now (board_of before.now) step }
-    ensures expanded { OnOk result (out.new.items ≡ out.old.items ++ expand rules.now (board_of before.now) step) }
+    ensures expanded { OnOk result
+        (out.new.items ≡ out.old.items ++ expand rules.now (board_of before.now) step) }
     ensures begun { OnErr result (StartsWith out.new.items out.old.items) }
 {
     // This call brings that the rules are playable, and so that stock and waste have few cards.
@@ -53,7 +54,8 @@ pub fn expand(
 ) -> Result<(), NoMemory>
     requires belongs { Belongs rules.now (board_of before.now) }
     requires made { CanBeMade rules.now (board_of before.now) step }
-    ensures expanded { OnOk result (out.new.items ≡ out.old.items ++ expand rules.now (board_of before.now) step) }
+    ensures expanded { OnOk result
+        (out.new.items ≡ out.old.items ++ expand rules.now (board_of before.now) step) }
     ensures refused { OnErr result (out.new.items ≡ out.old.items) }
 {
     let size = out.len();

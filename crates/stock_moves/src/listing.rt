@@ -67,7 +67,8 @@ fn goes_on(rules: &Rules, packed: &Packed, first: u8, emptied: bool) -> bool
 fn list_along(rules: &Rules, packed: &mut Packed, out: &mut Vec<Step>) -> Result<(), AllocError>
     requires belongs { Belongs rules.now (board_of packed.old) }
     requires to_waste { IsTrue (deals_to_waste rules.now.target) }
-    ensures listed { OnOk result (out.new.items ≡ out.old.items ++ stock_steps rules.now (board_of packed.old)) }
+    ensures listed { OnOk result
+        (out.new.items ≡ out.old.items ++ stock_steps rules.now (board_of packed.old)) }
     ensures begun { OnErr result (StartsWith out.new.items out.old.items) }
     ensures same_notes { (undo : StockUndo) → before_run undo packed.new ≡ before_run undo packed.old }
 {
@@ -90,7 +91,8 @@ fn list_along(rules: &Rules, packed: &mut Packed, out: &mut Vec<Step>) -> Result
 fn list_and_return(rules: &Rules, packed: &mut Packed, out: &mut Vec<Step>) -> Result<(), NoMemory>
     requires belongs { Belongs rules.now (board_of packed.old) }
     requires to_waste { IsTrue (deals_to_waste rules.now.target) }
-    ensures listed { OnOk result (out.new.items ≡ out.old.items ++ stock_steps rules.now (board_of packed.old)) }
+    ensures listed { OnOk result
+        (out.new.items ≡ out.old.items ++ stock_steps rules.now (board_of packed.old)) }
     ensures refused { OnErr result (out.new.items ≡ out.old.items) }
     ensures as_before { packed.new ≡ packed.old }
 {
@@ -117,7 +119,8 @@ pub fn list_stock_steps(
     out: &mut Vec<Step>,
 ) -> Result<(), NoMemory>
     requires { Belongs rules.now (board_of packed.old) }
-    ensures listed { OnOk result (out.new.items ≡ out.old.items ++ stock_steps rules.now (board_of packed.old)) }
+    ensures listed { OnOk result
+        (out.new.items ≡ out.old.items ++ stock_steps rules.now (board_of packed.old)) }
     ensures refused { OnErr result (out.new.items ≡ out.old.items) }
     ensures as_before { packed.new ≡ packed.old }
 {

@@ -43,7 +43,8 @@ fn push_onto(
     out: &mut Vec<Step>,
 ) -> Result<(), AllocError>
     requires { Belongs rules.now (board_of packed.now) }
-    ensures ok { OnOk result (out.new.items ≡ out.old.items ++ steps_onto rules.now (board_of packed.now) deals to) }
+    ensures ok { OnOk result
+        (out.new.items ≡ out.old.items ++ steps_onto rules.now (board_of packed.now) deals to) }
     ensures err { OnErr result (StartsWith out.new.items out.old.items) }
 {
     let last = Move::Carry {
@@ -68,7 +69,8 @@ fn push_onto_each(
 ) -> Result<(), AllocError>
     requires { Belongs rules.now (board_of packed.now) }
     ensures ok { OnOk result (out.new.items ≡ out.old.items
-        ++ flat_map (steps_onto rules.now (board_of packed.now) deals) (map (place_in kind) (range_with_len 0 n))) }
+        ++ flat_map (steps_onto rules.now (board_of packed.now) deals)
+        (map (place_in kind) (range_with_len 0 n))) }
     ensures err { OnErr result (StartsWith out.new.items out.old.items) }
 {
     for i in 0..n {

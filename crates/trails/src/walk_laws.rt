@@ -28,7 +28,8 @@ pub trait HasGame {
 pub fn a_walk_contains_prefixes<G: HasGame>(of: &G)
     ensures { (start : G.State) (walk : List (List G.Step))
         → IsWalk (G.game of.now) start walk
-        → (trail front : List G.Step) → Contains walk trail → IsPrefix front trail → Contains walk front }
+        → (trail front : List G.Step) → Contains walk trail → IsPrefix front trail
+        → Contains walk front }
 {}
 
 /// The trails of a walk are pairwise different, where no step stands twice in a state's list.
@@ -115,7 +116,8 @@ pub fn ended_walks_are_one<G: HasGame>(of: &G)
 /// Where a clean trail follows a walk, and the two together are fresh up to a number, every list of states that
 /// covers the game is longer than the walk or longer than the number.
 pub fn covers_are_longer<G: HasGame>(of: &G)
-    ensures { (start : G.State) (walk : List (List G.Step)) (z : List G.Step) (fresh : ℕ) (states : List G.State)
+    ensures { (start : G.State) (walk : List (List G.Step)) (z : List G.Step) (fresh : ℕ)
+        (states : List G.State)
         → IsAlike (G.game of.now)
         → IsWalk (G.game of.now) start walk
         → IsClean (G.game of.now) start z

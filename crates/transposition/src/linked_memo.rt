@@ -27,7 +27,8 @@ pub struct LinkedMemo<K: Eq + Hash> {
     hasher: BuildHasherDefault<FoldHasher>,
     ghost table: { IsTable (hash32 K.hash_input hasher) keys.items chains.hashes order.order
         order.nodes flags.items path.items depth capacity },
-    ghost once: { HoldsEachKeyOnce K.eq (keys_at keys.items (take depth path.items)) (keys_at keys.items order.order) },
+    ghost once: { HoldsEachKeyOnce K.eq (keys_at keys.items (take depth path.items))
+        (keys_at keys.items order.order) },
 }
 
 /// The hash that the table keeps of a key.
@@ -52,8 +53,10 @@ fn find<K: Eq>(
     requires noded { length keys.now.items < order.now.nodes }
     requires marked { length keys.now.items < length flags.now.items }
     ensures within { result ≤ length keys.now.items }
-    ensures equal { 0 < result → (d : K) → K.eq key.now (slice_index_or keys.now.items (result - 1) d) ≡ true }
-    ensures kept { 0 < result → Contains order.now.order result ⊎ (flag_at flags.now.items result ≡ true) }
+    ensures equal { 0 < result → (d : K)
+        → K.eq key.now (slice_index_or keys.now.items (result - 1) d) ≡ true }
+    ensures kept { 0 < result → Contains order.now.order result
+        ⊎ (flag_at flags.now.items result ≡ true) }
     ensures none { result ≡ 0 → (j : ℕ) → j < length keys.now.items
         → slice_index chains.now.hashes j ≡ hash
         → (d : K) → K.eq key.now (slice_index_or keys.now.items j d) ≡ true

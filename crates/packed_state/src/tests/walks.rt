@@ -204,7 +204,8 @@ fn deal(alloc: Global, rules: &Rules, in_cells: u8) -> Result<Board, Fail>
 fn next_stock_move(rules: &Rules, packed: &Packed) -> Option<Move>
     requires { Belongs rules.now (board_of packed.now) }
     ensures waste { IfSome result (λ m. IsTrue (deals_to_waste rules.now.target)) }
-    ensures legal { IfSome result (λ m. IsTrue (not (is_carry m)) × Legal rules.now (board_of packed.now) m) }
+    ensures legal { IfSome result
+        (λ m. IsTrue (not (is_carry m)) × Legal rules.now (board_of packed.now) m) }
 {
     if !matches!(rules.target(), Target::ToWaste) {
         None
