@@ -8,7 +8,8 @@ ghost use Rattle.game_rules.specs.Winning.{Won, Line};
 ghost use Rattle.line_printer.specs.declared.verdict.Verdict.{Verdict};
 ghost use Rattle.line_printer.specs.declared.verdict.Verdict.TheVariants as verdict;
 ghost use Rattle.solve_job.specs.declared.limits.Limits.{Limits};
-ghost use Rattle.solve_job.specs.Verdicts.{IsVerdict, nodes_of, narrow_nodes_of};
+ghost use Rattle.solve_job.specs.Verdicts.{IsVerdict};
+ghost use Rattle.solve_job.specs.Nodes.{nodes_of, narrow_nodes_of};
 
 /// Winnable: each move of the line is legal where it is made, and the last board is won.
 pub fn winnable_means_that_the_line_wins()
