@@ -1,3 +1,4 @@
 pub mod Same
 pub mod Keys
 pub mod Colours
+pub mod Bytes
