@@ -1,6 +1,6 @@
 -- Each redeal of a line takes one from those that are left.
 use Rattle.std.proofs.Common.{◌≡◌, ℕ, ◌+◌, ◌-◌, ◌<◌, ◌≤◌, Bool, true, false, ◌&&◌, ◌||◌, List, [], ◌∷◌, refl, ap, sym, ◌∙◌}
-use Rattle.std.proofs.Common.{arith}
+use Rattle.std.proofs.Common.{arith, not}
 use Rattle.std.specs.Prelude.{IsTrue, nat_lt, if◌then◌else◌}
 use Rattle.std.proofs.lemmas.Bool.{ltb-true}
 use Rattle.card_piles.specs.declared.Card.{Card}
@@ -11,11 +11,11 @@ use Rattle.game_rules.specs.declared.Move.{Move}
 use Rattle.game_rules.specs.declared.Move.TheVariants.{Carry, Deal, Redeal}
 use Rattle.game_rules.specs.declared.Target.{Target}
 use Rattle.game_rules.specs.declared.Target.TheVariants.{ToWaste, ToTableau, ToHole}
-use Rattle.game_rules.specs.Rules.{is_unlimited}
+use Rattle.game_rules.specs.Rules.{deals_to_waste, is_unlimited}
 use Rattle.game_rules.specs.Board.{Board}
 use Rattle.game_rules.specs.Taking.{without, taken}
 use Rattle.game_rules.specs.Putting.{with_cards}
-use Rattle.game_rules.specs.Play.{Legal, after, after_deal_to, is_legal_redeal}
+use Rattle.game_rules.specs.Play.{is_empty, after, after_deal_to}
 use Rattle.game_rules.specs.Winning.{Line}
 use Rattle.game_rules.specs.Redealing.{redeals_in}
 
@@ -62,7 +62,8 @@ fewer true n e some = cc
 pub line_redeals : (rules : RuleParts) (board : Board) (moves : List Move) (end : Board)
     → is_unlimited rules.redeals ≡ false → Line rules board moves end
     → redeals_in moves + end.redeals_left ≡ board.redeals_left
-line_redeals rules board [] end limited line = ap (λ (b : Board). b.redeals_left) line
+line_redeals rules board [] end limited line =
+    let same = ap (λ (b : Board). b.redeals_left) line in omega (arith, same)
 line_redeals rules board (Carry from to count ∷ moves) end limited line =
     line_redeals rules (after rules board (Carry from to count)) moves end limited line.1
     ∙ left-with (without rules board from count) to (taken rules board from count)
@@ -71,6 +72,7 @@ line_redeals rules board (Deal ∷ moves) end limited line =
     line_redeals rules (after rules board Deal) moves end limited line.1 ∙ left-deal rules.target rules board
 line_redeals rules board (Redeal ∷ moves) end limited line =
     let rest = line_redeals rules (after rules board Redeal) moves end limited line.1 in
-    let some = some_left _ _ _ (is_unlimited rules.redeals) board.redeals_left line.0 limited in
+    let some = some_left (deals_to_waste rules.target) (is_empty board.stock) (not (is_empty board.waste))
+    (is_unlimited rules.redeals) board.redeals_left line.0 limited in
     let one = fewer (is_unlimited rules.redeals) board.redeals_left limited some in
     omega (arith, rest, one)
