@@ -31,7 +31,7 @@ use Rattle.game_rules.specs.Taking.{can_take, taken, single_at, most_taken}
 use Rattle.game_rules.specs.Putting.{can_put, goes_on_pile}
 use Rattle.game_rules.specs.Play.{is_legal_move, same_place}
 use Rattle.game_rules.proofs.Limits.{both}
-use Rattle.game_rules.proofs.Listing.{legal_between}
+use Rattle.game_rules.specs.ByPlace.{legal_between}
 use Rattle.legal_moves.specs.declared.offers.Offer.{Offer}
 use Rattle.legal_moves.specs.Fits.{takes_groups, Fits}
 use Rattle.legal_moves.specs.Runs.{most_given}

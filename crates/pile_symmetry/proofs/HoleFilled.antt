@@ -31,7 +31,8 @@ use Rattle.game_rules.proofs.Copies.{copies-append}
 use Rattle.same_boards.specs.Same.{Same}
 use Rattle.same_boards.specs.Keys.{sorted_bytes, card_byte, card_bytes, entry_byte, hole_bytes}
 use Rattle.same_boards.proofs.Sorting.{sorted-permutation}
-use Rattle.same_boards.proofs.KeyParts.{card_of_byte, entry-back, card-back, permutation-from_bytes, IsGood}
+use Rattle.same_boards.specs.Bytes.{card_of_byte}
+use Rattle.same_boards.proofs.KeyParts.{entry-back, card-back, permutation-from_bytes, IsGood}
 use Rattle.same_boards.proofs.KeysSame.{top-good, empty-nil}
 use Rattle.same_boards.proofs.SameAfter.{HasPlaces}
 use Rattle.same_boards.proofs.SameBelongs.{copies-from_same}

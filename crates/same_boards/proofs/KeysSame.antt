@@ -36,7 +36,8 @@ use Rattle.same_boards.proofs.SameKeys.{key-from_same}
 use Rattle.same_boards.proofs.Sorting.{sorted-permutation, permutation-from_sorted}
 use Rattle.game_rules.specs.Ranked.{HasRanks}
 use Rattle.game_rules.proofs.Ranks.{ranks-belong}
-use Rattle.same_boards.proofs.KeyParts.{IsGood, IsGoodEntry, IsGoodPile, card_of_byte, entry_of_byte, pile_of_bytes}
+use Rattle.same_boards.specs.Bytes.{card_of_byte, entry_of_byte}
+use Rattle.same_boards.proofs.KeyParts.{IsGood, IsGoodEntry, IsGoodPile, pile_of_bytes}
 use Rattle.same_boards.proofs.KeyParts.{card-back, entry-back, pile-back, row-back, same-from_bytes}
 use Rattle.same_boards.proofs.KeyParts.{permutation-from_bytes, same_split, counted_split, if_split, concat_split}
 use Rattle.same_boards.proofs.KeyParts.{IsPileBytes, pile_splits, pile_bytes-is, row_splits}
