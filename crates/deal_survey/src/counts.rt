@@ -1,5 +1,5 @@
 //! How many answers there are of each kind.
-ghost use Rattle.std.specs.Prelude.{◌≡◌};
+ghost use Rattle.std.specs.Prelude.{◌≡◌, ◌+◌, length};
 ghost use Rattle.deal_survey.specs.Counting.{counts_of};
 
 use crate::Judged;
@@ -14,7 +14,8 @@ pub struct Counts {
 
 /// How many of the answers are of each kind.
 pub(crate) fn count(answers: &[Judged]) -> Counts
-    ensures { result ≡ counts_of answers.now }
+    ensures counted { result ≡ counts_of answers.now }
+    ensures sum { result.winnable + result.unwinnable + result.undecided ≡ length answers.now }
 {
     let mut counts = Counts {
         winnable: 0,
