@@ -10,7 +10,8 @@ What it finds is what a reader must believe. Definitions of the toolchain's libr
 A variable that is named as a definition counts as that definition. So the script may find too much, and not too little.
 
     python3 bench/believe.py              the tables that the pages show
-    python3 bench/believe.py --check      compares them with the pages; status 1 and the differences if there are any
+    python3 bench/believe.py --check      compares them with the pages, and the quotes of docs/TRUST.md with the files that
+                                          it names; status 1 and the differences if there are any
     python3 bench/believe.py --write      puts them into the pages
     python3 bench/believe.py --unreached  definitions that no clause reaches, in files where another one is reached
     python3 bench/believe.py --names      each definition that is reached, by file
@@ -19,6 +20,7 @@ A variable that is named as a definition counts as that definition. So the scrip
 import argparse
 import re
 import sys
+import textwrap
 from pathlib import Path
 
 ROOT = Path(__file__).resolve().parent.parent
@@ -353,8 +355,8 @@ def file_tables(repository, found):
         lines.append('')
     left = [f'`{definition.name}` ({definition.path.relative_to(CRATES).parts[0]})'
             for definition in unreached(repository, found)]
-    lines.append('In these files stand definitions that no clause reaches: ' + (', '.join(left) or 'none') + '.')
-    return lines
+    text = 'In these files stand definitions that no clause reaches: ' + (', '.join(left) or 'none') + '.'
+    return lines + textwrap.wrap(text, 118)
 
 
 def type_table(repository, found):
@@ -405,7 +407,7 @@ PAGES = ['docs/ARCHITECTURE.md', 'docs/TRUST.md']
 
 
 def block_pattern(name):
-    return re.compile(r'(<!-- bench/believe\.py: %s -->\n)(.*?)(\n<!-- end -->)' % name, re.S)
+    return re.compile(r'(<!-- bench/believe\.py: %s -->\n)(.*?)(<!-- end -->)' % name, re.S)
 
 
 def compare(page, name, shown, wanted):
@@ -443,6 +445,25 @@ def pages(repository, found, write):
     return differ
 
 
+def quotes(page):
+    """Prints each quote of a page that does not stand in the file that the page names before it; how many there are."""
+    text = (ROOT / page).read_text(encoding='utf-8')
+    missing, path = 0, None
+    for part in re.split(r'(^```\n.*?^```$)', text, flags=re.S | re.M):
+        if not part.startswith('```'):
+            named = re.findall(r'`(crates/\S+?)`', part)
+            path = named[-1] if named else path
+            continue
+        lines = [line.strip() for line in part.split('\n')[1:-1]]
+        body = [line.strip() for line in (ROOT / path).read_text(encoding='utf-8').split('\n')]
+        for piece in '\n'.join(lines).split('\n..\n'):
+            wanted = piece.split('\n')
+            if not any(body[at:at + len(wanted)] == wanted for at in range(len(body))):
+                missing += 1
+                print(f'{page}: {path} does not have the quote that begins with    {wanted[0]}')
+    return missing
+
+
 def main():
     parser = argparse.ArgumentParser(description=__doc__, formatter_class=argparse.RawDescriptionHelpFormatter)
     parser.add_argument('--check', action='store_true')
@@ -468,8 +489,10 @@ def main():
                 print(' <- '.join('%s:%s' % step for step in path))
     elif asked.check or asked.write:
         differ = pages(repository, found, asked.write)
+        missing = quotes('docs/TRUST.md')
         if differ and asked.check:
             print(f'{differ} blocks differ: run bench/believe.py --write, and read what changed')
+        if missing or (differ and asked.check):
             return 1
         print('the pages show what the clauses reach' if asked.check else 'written')
     else:
