@@ -1,5 +1,5 @@
--- Answers that are allowed, one after the other.
-use Rattle.std.proofs.Common.{◌≡◌, ◌+◌, ◌⊎◌, inl, inr, ℕ, List, [], ◌∷◌, ◌++◌, length, refl, ap, sym}
+-- Answers, one after the other.
+use Rattle.std.proofs.Common.{append_assoc, ◌∙◌, ◌≡◌, ◌+◌, ◌⊎◌, inl, inr, ℕ, List, [], ◌∷◌, ◌++◌, length, refl, ap, sym}
 use Rattle.std.proofs.Common.{zero, suc, Some, slice_get}
 use Rattle.deal_survey.specs.declared.judge.Judged.{Judged}
 use Rattle.deal_survey.specs.Answers.{AreAllowed, added}
@@ -31,3 +31,9 @@ AreAllowed-append_one allows from answers last before next i judged is =
       | inl there ↦ before i judged there
       | inr end ↦ rw (end.0, sym end.1) next
     ]
+
+-- one more answer was appended to a list that had grown by these
+pub grew_by_one : (old before after answers : List Judged) (last : Judged)
+    → before ≡ old ++ answers → after ≡ before ++ last ∷ [] → after ≡ old ++ (answers ++ last ∷ [])
+grew_by_one old before after answers last grew more =
+    more ∙ ap (λ xs. xs ++ last ∷ []) grew ∙ append_assoc old answers (last ∷ [])

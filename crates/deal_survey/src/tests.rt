@@ -5,7 +5,7 @@ use crate::{Counts, Judge, Judged, survey, write_survey};
 use outside_io::SinkNoMemory;
 use std::test::Fail;
 
-/// Holds an answer for each seed from `first` on. For want of memory stands a seed that it has no answer for.
+/// Holds the answers of four seeds from `first` on. A seed past them has none, and is refused.
 #[derive(Drop)]
 struct Listed {
     first: u64,
@@ -15,10 +15,7 @@ struct Listed {
 impl Judge for Listed {
     ghost allows = { λ judge seed judged. slice_get judge.answers (seed - judge.first) ≡ Some judged };
 
-    fn judge(&mut self, seed: u64) -> Result<Judged, SinkNoMemory>
-        ensures same_first { self.new.first ≡ self.old.first }
-        ensures same_answers { self.new.answers ≡ self.old.answers }
-    {
+    fn judge(&mut self, seed: u64) -> Result<Judged, SinkNoMemory> {
         match self.answers.get(seed.saturating_sub(self.first) as usize) {
             Some(judged) => Ok(*judged),
             None => Err(SinkNoMemory),
@@ -42,7 +39,14 @@ fn each_seed_has_its_answer_and_counts(rt: HostRuntime) -> Result<(), Fail> {
     let mut answers = Vec::new(rt.alloc());
     answers.push(Judged::Undecided)?;
     let counts = survey(&mut judge, 42, 3, &mut answers)?;
-    assert!(rt; counts == Counts { winnable: 1, unwinnable: 1, undecided: 1 });
+    assert!(rt;
+        counts
+            == Counts {
+                winnable: 1,
+                unwinnable: 1,
+                undecided: 1
+            }
+    );
     let listed = [
         Judged::Undecided,
         Judged::Undecided,
@@ -72,7 +76,11 @@ fn a_survey_has_its_text(rt: HostRuntime) -> Result<(), Fail> {
         undecided: 1,
     };
     let text = write_survey(rt.alloc(), u64::MAX - 2, &counts, answers.as_slice())?;
-    assert!(rt; text.as_slice() == b"survey\nseeds 3\nwinnable 1\nunwinnable 1\nundecided 1\n\
-        18446744073709551613 undecided\n18446744073709551614 winnable\n18446744073709551615 unwinnable\n".as_slice());
+    assert!(rt;
+        text.as_slice()
+            == b"survey\nseeds 3\nwinnable 1\nunwinnable 1\nundecided 1\n\
+        18446744073709551613 undecided\n18446744073709551614 winnable\n18446744073709551615 unwinnable\n"
+                .as_slice()
+    );
     Ok(())
 }
