@@ -21,7 +21,8 @@ use Rattle.game_rules.specs.declared.Redeals.{Redeals}
 use Rattle.game_rules.specs.declared.Redeals.TheVariants.{Times, Unlimited}
 use Rattle.game_rules.specs.declared.BoardFault.{BoardFault}
 use Rattle.game_rules.specs.declared.BoardFault.TheVariants.{PlaceFull}
-use Rattle.game_rules.specs.Conflicts.{IsPlayable, HasLimits, are_redeals_within}
+use Rattle.game_rules.specs.Conflicts.{are_redeals_within}
+use Rattle.game_rules.specs.Playable.{IsPlayable, HasLimits}
 use Rattle.game_rules.specs.Board.{Board, Pile, empty_pile}
 use Rattle.game_rules.specs.Belonging.{Belongs, most_redeals, foundation_count, copies_of, copies_in_piles}
 use Rattle.game_rules.specs.Belonging.{copies_at_home, copies_on, copies_due}

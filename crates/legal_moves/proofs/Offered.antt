@@ -15,7 +15,7 @@ use Rattle.std.proofs.lemmas.Bool.Decides.{nat_tests}
 use Rattle.std.proofs.lemmas.Bool.{lt-ltb, ltb-true, leb-true, eqb-true, false_from_ne_true}
 use Rattle.std.proofs.Math.Bool.{and-true, and-false}
 use Rattle.card_piles.specs.declared.Card.{Card}
-use Rattle.card_piles.specs.Cards.{IsRank}
+use Rattle.card_piles.specs.Ranks.{IsRank}
 use Rattle.card_sets.specs.declared.CardSet.{CardSet}
 use Rattle.card_sets.specs.declared.CardBit.{CardBit}
 use Rattle.card_sets.specs.Sets.{bit_of, has, has_bit}

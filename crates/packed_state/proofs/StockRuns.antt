@@ -10,7 +10,7 @@ use Rattle.card_links.proofs.Cutting.{each_used, each_more, each_less, each_beyo
 use Rattle.card_links.proofs.Sums.{two_below}
 use Rattle.game_rules.specs.declared.RuleParts.{RuleParts}
 use Rattle.game_rules.specs.Board.{top_part, below_top}
-use Rattle.game_rules.specs.StockMoves.{queue}
+use Rattle.game_rules.specs.NextByStock.{queue}
 use Rattle.game_rules.proofs.StockMoves.{with_stock}
 use Rattle.packed_state.specs.declared.stock.Border.{Border}
 use Rattle.packed_state.specs.declared.stock.StockUndo.{StockUndo}

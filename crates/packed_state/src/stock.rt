@@ -7,7 +7,8 @@ ghost use Rattle.std.specs.Prelude.{◌≡◌, ◌≤◌, ◌<◌, ◌+◌, ◌-
 ghost use Rattle.card_links.specs.Chains.{size_at};
 ghost use Rattle.game_rules.specs.Rules.{is_unlimited};
 ghost use Rattle.game_rules.specs.Belonging.{Belongs};
-ghost use Rattle.game_rules.specs.StockMoves.{HasStockMoves, after_stock_moves};
+ghost use Rattle.game_rules.specs.StockMoves.{after_stock_moves};
+ghost use Rattle.game_rules.specs.NextByStock.{HasStockMoves};
 ghost use Rattle.packed_state.specs.declared.stock.StockUndo.{StockUndo};
 ghost use Rattle.packed_state.specs.Packed.{board_of, is_stacked, HoldsFoundations};
 ghost use Rattle.packed_state.specs.StockRuns.{before_run, can_be_cut, cut_at};

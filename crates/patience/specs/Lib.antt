@@ -5,3 +5,4 @@ pub mod Complete
 pub mod PlainWords
 pub mod Stages
 pub mod Texts
+pub mod FirstLine

@@ -18,12 +18,13 @@ use Rattle.game_rules.specs.declared.BoardParts.{BoardParts}
 use Rattle.game_rules.specs.declared.Goal.{Goal}
 use Rattle.game_rules.specs.declared.Goal.TheVariants.{Foundations, Hole, Sequences}
 use Rattle.game_rules.specs.Rules.{is_foundation_goal, is_hole_goal, is_sequence_goal}
-use Rattle.game_rules.specs.Conflicts.{HasLimits}
+use Rattle.game_rules.specs.Playable.{HasLimits}
 use Rattle.game_rules.specs.Board.{Board, Pile, top_of, below_top}
 use Rattle.game_rules.specs.Play.{is_empty}
 use Rattle.game_rules.specs.Belonging.{Belongs, copies_of, copies_in, copies_in_piles, copies_at_home}
 use Rattle.game_rules.specs.Belonging.{copies_on, copies_due}
-use Rattle.game_rules.specs.Position.{HasRanks, parts_of, card_numbered, deck_size}
+use Rattle.game_rules.specs.Position.{parts_of, card_numbered, deck_size}
+use Rattle.game_rules.specs.Ranked.{HasRanks}
 use Rattle.game_rules.proofs.ListFacts.{drop_last}
 use Rattle.game_rules.proofs.PositionFacts.{deck_size-is}
 use Rattle.game_rules.proofs.Copies.{copies-append}

@@ -15,7 +15,8 @@ use Rattle.game_rules.specs.Rules.{is_foundation_goal, is_sequence_goal}
 use Rattle.game_rules.specs.Board.{Board, Pile, below_top}
 use Rattle.game_rules.specs.Winning.{rows_of}
 use Rattle.game_rules.specs.Belonging.{Belongs}
-use Rattle.game_rules.specs.Position.{HasRanks, filled}
+use Rattle.game_rules.specs.Position.{filled}
+use Rattle.game_rules.specs.Ranked.{HasRanks}
 use Rattle.same_boards.specs.Same.{keeps_pile_order, heights_of_suit}
 use Rattle.same_boards.specs.Keys.{sorted_bytes, sorted_lists, card_byte, card_bytes, cards_in, entry_byte, cell_bytes}
 use Rattle.same_boards.specs.Keys.{pile_bytes, row_bytes}

@@ -11,10 +11,11 @@ use Rattle.card_piles.specs.declared.Card.{Card}
 use Rattle.game_rules.specs.declared.RuleParts.{RuleParts}
 use Rattle.game_rules.specs.declared.BoardParts.{BoardParts}
 use Rattle.game_rules.specs.Rules.{is_foundation_goal, is_hole_goal, is_sequence_goal}
-use Rattle.game_rules.specs.Conflicts.{IsPlayable}
+use Rattle.game_rules.specs.Playable.{IsPlayable}
 use Rattle.game_rules.specs.Board.{Board, Pile, empty_pile}
 use Rattle.game_rules.specs.Belonging.{Belongs, foundation_count}
-use Rattle.game_rules.specs.Position.{HasRanks, filled, parts_of}
+use Rattle.game_rules.specs.Position.{filled, parts_of}
+use Rattle.game_rules.specs.Ranked.{HasRanks}
 use Rattle.game_rules.proofs.ListFacts.{map-range-same}
 use Rattle.same_boards.specs.Same.{keeps_pile_order}
 use Rattle.same_boards.specs.Keys.{card_bytes, counted, height_bytes, hole_bytes, cell_bytes, reserve_bytes}

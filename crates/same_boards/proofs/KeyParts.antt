@@ -12,9 +12,10 @@ use Rattle.std.proofs.lemmas.Bool.{ne_eqb}
 use Rattle.card_piles.specs.declared.Suit.{Suit}
 use Rattle.card_piles.specs.declared.Suit.TheVariants.{Clubs, Diamonds, Hearts, Spades}
 use Rattle.card_piles.specs.declared.Card.{Card}
-use Rattle.card_piles.specs.Cards.{place_of, IsRank}
+use Rattle.card_piles.specs.Cards.{place_of}
+use Rattle.card_piles.specs.Ranks.{IsRank}
 use Rattle.game_rules.specs.Board.{Pile, empty_pile, suit_at}
-use Rattle.game_rules.specs.Position.{AreCards}
+use Rattle.game_rules.specs.Ranked.{AreCards}
 use Rattle.same_boards.specs.Keys.{card_byte, entry_byte, card_bytes, counted, pile_bytes, row_bytes}
 use Rattle.same_boards.specs.Bytes.{card_of_byte, entry_of_byte}
 

@@ -21,7 +21,8 @@ use Rattle.search_space.proofs.Alike.{plain_game-is_alike}
 use Rattle.same_boards.specs.Same.{Same}
 use Rattle.solve_job.specs.declared.limits.Limits.{Limits}
 use Rattle.solve_job.proofs.Lines.{trail_end}
-use Rattle.solve_job.specs.Verdicts.{IsSearched, IsVerdict, IsPassed, nodes_of, narrow_nodes_of}
+use Rattle.solve_job.specs.Verdicts.{IsSearched, IsVerdict, IsPassed}
+use Rattle.solve_job.specs.Nodes.{nodes_of, narrow_nodes_of}
 
 -- where the start is not winnable, no line wins
 pub no_line_wins : (rules : RuleParts) (start : Board) (moves : List Move) (last : Board) → ¬ Winnable rules start

@@ -13,7 +13,8 @@ use Rattle.line_printer.specs.declared.verdict.Verdict.TheVariants as verdict
 use Rattle.search_space.specs.Game.{plain_game}
 use Rattle.search_space.specs.Narrow.{narrow_game}
 use Rattle.solve_job.specs.declared.limits.Limits.{Limits}
-use Rattle.solve_job.specs.Verdicts.{FindsWin, IsVerdict, narrow_nodes_of}
+use Rattle.solve_job.specs.Verdicts.{FindsWin, IsVerdict}
+use Rattle.solve_job.specs.Nodes.{narrow_nodes_of}
 use Rattle.solve_job.proofs.Fixed.{plain_steps, passed_none}
 
 -- the walk of an undecided verdict and the trail that follows it are more trails than its nodes

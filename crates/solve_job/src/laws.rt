@@ -11,7 +11,8 @@ ghost use Rattle.solve_job.specs.declared.limits.Limits.{Limits};
 ghost use Rattle.search_space.specs.Game.{plain_game};
 ghost use Rattle.search_space.specs.Narrow.{narrow_game};
 ghost use Rattle.trails.specs.Many.{HasMoreTrails};
-ghost use Rattle.solve_job.specs.Verdicts.{FindsWin, IsVerdict, nodes_of, narrow_nodes_of};
+ghost use Rattle.solve_job.specs.Verdicts.{FindsWin, IsVerdict};
+ghost use Rattle.solve_job.specs.Nodes.{nodes_of, narrow_nodes_of};
 
 /// Winnable: each move of the line is legal where it is made, and the last board is won.
 pub fn winnable_means_that_the_line_wins()
