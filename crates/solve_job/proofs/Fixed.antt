@@ -40,7 +40,7 @@ line_wins rules start limits line nodes narrow_nodes (inr narrow) =
     (after_steps rules start narrow.finds.trail, narrow.finds.legal, narrow.finds.won)
 
 -- no step stands twice
-plain_steps : (rules : RuleParts) (start : Board) → HasPlainSteps (plain_game rules) start
+pub plain_steps : (rules : RuleParts) (start : Board) → HasPlainSteps (plain_game rules) start
 plain_steps rules start = λ p is_trail. steps-apart rules (end (plain_game rules) start p)
 
 -- how a verdict ends its walk: a trail with a won end follows, or the walk is closed, or a trail to a new board
