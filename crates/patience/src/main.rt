@@ -12,6 +12,8 @@ mod asked;
 mod ending_tests;
 #[cfg(test)]
 mod failing_tests;
+#[cfg(test)]
+mod file_words_tests;
 mod files;
 #[cfg(test)]
 mod hostile_tests;
