@@ -10,7 +10,6 @@ use Rattle.game_rules.specs.declared.RuleParts.{RuleParts}
 use Rattle.game_rules.specs.declared.Move.{Move}
 use Rattle.game_rules.specs.Board.{Board}
 use Rattle.rules_json.specs.RulesFile.{rules_of}
-use Rattle.solver_words.specs.declared.job.Job.{Job}
 use Rattle.solver_words.specs.declared.job.Job.TheVariants as job
 use Rattle.solver_words.specs.declared.job.MemoWord.TheVariants as memo
 use Rattle.solver_words.specs.declared.job.Source.TheVariants as source

@@ -1,13 +1,14 @@
 //! Callers of the top call whose contracts say, in the words of the game and of three files, how two jobs end that are
 //! done one after the other. If a clause of `patience` said less, or asked for what no caller has, they could not be
 //! proved.
-ghost use Rattle.std.specs.Prelude.{◌≡◌, ◌∷◌, [], ◌≤◌, ℕ, List, IfOk, Some, codes, OnOk, OnErr, IsErrOf};
+ghost use Rattle.std.specs.Prelude.{◌≡◌, ◌∷◌, [], IfOk, Some, codes};
 ghost use Rattle.outside_io.specs.Faults.{Rose};
 ghost use Rattle.outside_io.specs.MemoryShelf.{shelf_files};
 ghost use Rattle.solver_words.specs.Texts.{texts};
 ghost use Rattle.patience.specs.FileWords.{Files, AreGiven, EndsSolve, EndsReplay, WritesBoth};
 ghost use Rattle.patience.specs.declared.status.Status.TheVariants.{SinkFailed};
 
+use crate::plain_words_tests::solve_words;
 use crate::status::Status;
 use crate::tests::{DEAL, RULES, WON};
 use crate::top::patience;
@@ -39,17 +40,6 @@ impl Shelf for CalmShelf {
 struct Endings {
     solved: Status,
     replayed: Status,
-}
-
-/// The words of a job that solves the file `deal` by the file `rules`.
-fn solve_words(alloc: Global) -> Result<Vec<String>, AllocError>
-    ensures { IfOk result (λ words. texts words.items ≡ codes "solve" ∷ codes "rules" ∷ codes "deal" ∷ []) }
-{
-    let mut words = Vec::new(alloc);
-    words.push(String::from_str(alloc, "solve")?)?;
-    words.push(String::from_str(alloc, "rules")?)?;
-    words.push(String::from_str(alloc, "deal")?)?;
-    Ok(words)
 }
 
 /// The words of a job that replays the file `line` from the file `deal` by the file `rules`.
