@@ -6,7 +6,8 @@
 //! Not promised: room that is kept for more rows. It doubles where it is used up.
 #![tactic(auto)]
 
-ghost use Rattle.std.specs.Prelude.{◌≡◌, ◌<◌, ◌+◌, ◌^◌, [], ◌∷◌, ◌++◌, length, slice_index_or, OnOk, OnErr, IsTrue, ◌↔◌};
+ghost use Rattle.std.specs.Prelude.{◌≡◌, ◌<◌, ◌≤◌, ◌+◌, ◌^◌, [], ◌∷◌, ◌++◌, length, slice_index, slice_index_or, slice_range};
+ghost use Rattle.std.specs.Prelude.{OnOk, OnErr, IsTrue, ◌↔◌};
 ghost use Rattle.std.specs.List.{concat};
 
 use std::alloc::{AllocError, Global};
@@ -29,6 +30,26 @@ impl Model for ByteRows {
     ghost view = { λ r. rows_from 0 r.bytes.items r.ends.items };
 
     ghost invariant = { λ r. AreEnds 0 r.bytes.items r.ends.items };
+}
+
+/// The place where a row begins: after the last byte of the one before it.
+fn start_of(ends: &Vec<u32>, i: usize) -> usize
+    requires { i < length ends.now.items }
+    ensures { result ≡ slice_index (0 ∷ ends.now.items) i }
+{
+    if i == 0 {
+        return 0;
+    }
+    ends[i - 1] as usize
+}
+
+/// Whether the bytes from one place to another are these.
+fn is_part(bytes: &Vec<u8>, start: usize, end: usize, part: &[u8]) -> bool
+    requires ordered { start ≤ end }
+    requires within { end ≤ length bytes.now.items }
+    ensures { IsTrue result ↔ (slice_range bytes.now.items start end ≡ part.now) }
+{
+    &bytes[start..end] == part
 }
 
 impl ByteRows {
@@ -55,8 +76,14 @@ impl ByteRows {
         ensures added { OnOk result (self.new ≡ self.old ++ row.now ∷ []) }
         ensures unchanged { OnErr result (self.new ≡ self.old) }
     {
-        let _ = row;
-        Err(AllocError)
+        // Room for the end first: after a refusal the rows are as before.
+        self.ends.reserve(1)?;
+        self.bytes.extend_from_slice(row)?;
+        match self.ends.push(self.bytes.len() as u32) {
+            Ok(()) => {}
+            Err(_) => unreachable!(),
+        }
+        Ok(())
     }
 
     /// Whether the row of this number is this one.
@@ -64,8 +91,8 @@ impl ByteRows {
         requires there { i < length self.now }
         ensures { IsTrue result ↔ (slice_index_or self.now i [] ≡ row.now) }
     {
+        let start = start_of(&self.ends, i);
         let end = self.ends[i] as usize;
-        let start = if i == 0 { 0 } else { self.ends[i - 1] as usize };
-        &self.bytes[start..end] == row
+        is_part(&self.bytes, start, end, row)
     }
 }

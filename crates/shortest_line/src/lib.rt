@@ -10,7 +10,12 @@
 #![tactic(auto)]
 
 mod answer;
+mod kept;
+mod searching;
 mod text;
+mod walking;
+#[cfg(test)]
+mod tests;
 
 ghost use Rattle.std.specs.Prelude.{◌≤◌, IfOk};
 ghost use Rattle.game_rules.specs.Belonging.{Belongs};
@@ -20,6 +25,8 @@ ghost use Rattle.shortest_line.specs.Answers.{IsAnswer, IsDecided};
 pub use answer::Shortest;
 use card_piles::NoMemory;
 use game_model::{Board, Rules};
+use legal_moves::Line;
+use searching::search_levels;
 use std::alloc::Global;
 pub use text::write_shortest;
 
@@ -42,9 +49,11 @@ pub fn shortest(
     // Where the ends of all lines are the same as so few boards, the answer is not open.
     ensures decides { HasFewEnds rules.now start.now nodes → IfOk result IsDecided }
 {
-    let _ = alloc;
-    let _ = rules;
-    let _ = start;
-    let _ = nodes;
-    Err(NoMemory)
+    if start.is_won(rules) {
+        return Ok(Shortest::Least {
+            line: Line::from_vec(Vec::new(alloc)),
+            nodes: 0,
+        });
+    }
+    search_levels(alloc, rules, start, nodes)
 }
