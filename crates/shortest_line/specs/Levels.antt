@@ -52,47 +52,57 @@ module _ (rules : RuleParts) (start : Board) where
   AreTried lines places = (k : ℕ) → k < places → (m : Move) → Legal rules (board_at lines k) m
       → ¬ Won rules (after rules (board_at lines k) m)
 
-  -- each legal move of the boards at the first places leads to a kept board
-  abbrev pub AreReached : Tree → ℕ → Type 0
-  AreReached tree places = (k : ℕ) → k < places → (m : Move) → Legal rules (board_at tree.lines k) m
-      → Contains tree.keys (key_bytes rules (after rules (board_at tree.lines k) m))
+  -- each legal move of the boards at the first places leads to a board with one of the keys
+  abbrev pub AreReached : List (List Move) → List (List ℕ) → ℕ → Type 0
+  AreReached lines keys places = (k : ℕ) → k < places → (m : Move) → Legal rules (board_at lines k) m
+      → Contains keys (key_bytes rules (after rules (board_at lines k) m))
 
   -- the end of each line of at most so many moves is kept
   abbrev pub AreCovered : Tree → ℕ → Type 0
   AreCovered tree depth = (moves : List Move) (end : Board) → Line rules start moves end → length moves ≤ depth
       → Contains tree.keys (key_bytes rules end)
 
-  -- the lines lead to a won board in so many moves
+  -- the line leads to a won board in so many moves
   pub record IsWin (line : List Move) (moves : ℕ) : Type 0 where
     pub leads : IsLine line
     pub won : Won rules (end_of rules start line)
     pub long : length line ≡ moves
 
   -- what came of the moves of one board: one of them wins, or each was tried
-  abbrev pub IsExpanded : Search → ℕ → Option (List Move) → Type 0
-  IsExpanded s place (Some line) = IsWin line (length (line_at s.kept.lines place) + 1)
-  IsExpanded s place None =
-      ((m : Move) → Legal rules (board_at s.kept.lines place) m
-          → ¬ Won rules (after rules (board_at s.kept.lines place) m))
-      × (s.further ≡ false → (m : Move) → Legal rules (board_at s.kept.lines place) m
-          → Contains s.kept.keys (key_bytes rules (after rules (board_at s.kept.lines place) m)))
+  abbrev pub IsExpanded : Search → Search → ℕ → Option (List Move) → Type 0
+  IsExpanded old new place (Some line) = IsWin line (length (line_at old.kept.lines place) + 1)
+  IsExpanded old new place None =
+      ((m : Move) → Legal rules (board_at old.kept.lines place) m
+          → ¬ Won rules (after rules (board_at old.kept.lines place) m))
+      × (new.further ≡ false → (m : Move) → Legal rules (board_at old.kept.lines place) m
+          → Contains new.kept.keys (key_bytes rules (after rules (board_at old.kept.lines place) m)))
+
+  -- what came of all boards of a level: a move of one of them wins, or each was tried
+  abbrev pub IsDone : Search → Search → ℕ → ℕ → Option (List Move) → Type 0
+  IsDone old new places depth (Some line) = IsWin line (depth + 1)
+  IsDone old new places depth None = AreTried old.kept.lines places
+      × (new.further ≡ false → AreReached old.kept.lines new.kept.keys places)
 
   -- the boards from a place on are those of one level, and all that stand before them are expanded
   pub record IsLevel (s : Search) (from depth : ℕ) : Type 0 where
     pub sound : IsSound s (depth + 1)
-    pub open : s.further ≡ false
+    pub none_further : s.further ≡ false
     pub from_within : from ≤ length s.kept.lines
     pub short : (k : ℕ) → k < length s.kept.lines → length (line_at s.kept.lines k) ≤ depth
     pub last : (k : ℕ) → from ≤ k → k < length s.kept.lines → length (line_at s.kept.lines k) ≡ depth
     pub covered : AreCovered s.kept depth
-    pub reached : AreReached s.kept from
+    pub reached : AreReached s.kept.lines s.kept.keys from
     pub deep : depth ≤ from
 
--- lines of so many moves were added
-pub record IsGrown (old new : List (List Move)) (moves : ℕ) : Type 0 where
-  pub added : List (List Move)
-  pub is : new ≡ old ++ added
-  pub long : (k : ℕ) → k < length added → length (line_at added k) ≡ moves
+-- boards at the ends of lines of so many moves were added, and what was met stays so
+pub record IsGrown (old new : Search) (moves : ℕ) : Type 0 where
+  pub lines : List (List Move)
+  pub keys : List (List ℕ)
+  pub lines_are : new.kept.lines ≡ old.kept.lines ++ lines
+  pub keys_are : new.kept.keys ≡ old.kept.keys ++ keys
+  pub long : (k : ℕ) → k < length lines → length (line_at lines k) ≡ moves
+  pub limit : new.budget.limit ≡ old.budget.limit
+  pub stays : old.further ≡ true → new.further ≡ true
 
 -- The board with this key was met: it is known or not asked for; or it was kept; or there is no room for it.
 abbrev pub IsMet : Search → Search → List ℕ → ℕ → Move → Type 0
@@ -104,9 +114,3 @@ IsMet old new key place m =
     ⊎ ((old.further ≡ false) × (¬ Contains old.kept.keys key)
     × (new.kept ≡ old.kept) × (new.further ≡ true)
     × (new.budget ≡ old.budget) × (old.budget.spent ≡ old.budget.limit)))
-
--- all boards of a level were expanded: one of their moves wins, or each was tried
-abbrev pub IsDone : (rules : RuleParts) (start : Board) → Search → ℕ → ℕ → Option (List Move) → Type 0
-IsDone rules start s to depth (Some line) = IsWin rules start line (depth + 1)
-IsDone rules start s to depth None =
-    AreTried rules start s.kept.lines to × (s.further ≡ false → AreReached rules start s.kept to)

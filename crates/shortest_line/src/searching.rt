@@ -77,12 +77,14 @@ impl Search {
             (length (line_at self.old.kept.lines place) + 1) }
         ensures sound { OnOk result (IsSound rules.now start.now self.new
             (length (line_at self.old.kept.lines place) + 1)) }
-        ensures grown { OnOk result (IsGrown self.old.kept.lines self.new.kept.lines
+        ensures grown { OnOk result (IsGrown self.old self.new
             (length (line_at self.old.kept.lines place) + 1)) }
-        ensures limit { OnOk result (self.new.budget.limit ≡ self.old.budget.limit) }
         ensures expanded { IfOk result
-            (λ won. IsExpanded rules.now start.now self.new place (option_map (λ v. v.items) won)) }
+            (λ won. IsExpanded rules.now start.now self.old self.new place
+            (option_map (λ v. v.items) won)) }
     {
+        // This call brings that the rules are playable.
+        let _ = rules.parts();
         let mut line = self.kept.line(alloc, place)?;
         let mut packed = board_after(rules, start, line.as_slice());
         let moves = moves_of(alloc, rules, &packed)?;
@@ -114,12 +116,12 @@ impl Search {
             (length (line_at self.old.kept.lines from)) }
         ensures sound { OnOk result (IsSound rules.now start.now self.new
             (length (line_at self.old.kept.lines from) + 1)) }
-        ensures grown { OnOk result (IsGrown self.old.kept.lines self.new.kept.lines
+        ensures grown { OnOk result (IsGrown self.old self.new
             (length (line_at self.old.kept.lines from) + 1)) }
-        ensures limit { OnOk result (self.new.budget.limit ≡ self.old.budget.limit) }
-        ensures done { IfOk result (λ won. IsDone rules.now start.now self.new to
+        ensures done { IfOk result (λ won. IsDone rules.now start.now self.old self.new to
             (length (line_at self.old.kept.lines from)) (option_map (λ v. v.items) won)) }
     {
+        let _ = rules.parts();
         for place in from..to {
             if let Some(line) = self.expand(alloc, rules, start, place)? {
                 return Ok(Some(line));
@@ -139,6 +141,7 @@ impl Search {
         requires level { IsLevel rules.now start.now self.old 0 0 }
         ensures { IfOk result (IsAnswer rules.now start.now self.old.budget.limit) }
     {
+        let _ = rules.parts();
         let mut from = 0;
         let mut depth = 0;
         while from < self.kept.len() {
