@@ -74,7 +74,7 @@ grown-then a b c n f g = record {
   stays = λ h. g.stays (f.stays h);
 }
 
-not_both : (b : Bool) → b ≡ true → b ≡ false → ⊥
+pub not_both : (b : Bool) → b ≡ true → b ≡ false → ⊥
 not_both b t f = let e : true ≡ false = sym t ∙ f in cc
 
 -- what is known once a board was met
