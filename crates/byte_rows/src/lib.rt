@@ -96,3 +96,6 @@ impl ByteRows {
         is_part(&self.bytes, start, end, row)
     }
 }
+
+#[cfg(test)]
+mod tests;

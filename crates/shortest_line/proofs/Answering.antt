@@ -230,7 +230,7 @@ module _ (rules : RuleParts) (start : Board) (playable : IsPlayable rules) (in_s
       let w = level.sound.within in
       let n = length-keys rules start playable in_start s.kept tree in
       let all : (moves : List Move) (end : Board) → Line rules start moves end
-          → Contains s.kept.keys (key_bytes rules end) =
+      → Contains s.kept.keys (key_bytes rules end) =
       λ moves end line. covered_all s from depth level far (length moves) moves end line (omega arith) in
       record {
         never = λ wins. known_not_won rules start playable in_start s.kept wins.1.end tree

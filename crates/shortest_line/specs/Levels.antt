@@ -73,9 +73,9 @@ module _ (rules : RuleParts) (start : Board) where
   IsExpanded old new place (Some line) = IsWin line (length (line_at old.kept.lines place) + 1)
   IsExpanded old new place None =
       ((m : Move) → Legal rules (board_at old.kept.lines place) m
-          → ¬ Won rules (after rules (board_at old.kept.lines place) m))
+      → ¬ Won rules (after rules (board_at old.kept.lines place) m))
       × (new.further ≡ false → (m : Move) → Legal rules (board_at old.kept.lines place) m
-          → Contains new.kept.keys (key_bytes rules (after rules (board_at old.kept.lines place) m)))
+      → Contains new.kept.keys (key_bytes rules (after rules (board_at old.kept.lines place) m)))
 
   -- what came of all boards of a level: a move of one of them wins, or each was tried
   abbrev pub IsDone : Search → Search → ℕ → ℕ → Option (List Move) → Type 0

@@ -120,7 +120,12 @@ impl Kept {
     pub fn contains(&self, key: &Key) -> bool
         ensures { IsTrue result ↔ Contains self.now.keys key.now }
     {
-        is_there(&self.keys, &self.index, key.bytes(), hash_of(&self.hasher, key))
+        is_there(
+            &self.keys,
+            &self.index,
+            key.bytes(),
+            hash_of(&self.hasher, key),
+        )
     }
 
     /// Keeps a board that was reached by a move from that at a place.

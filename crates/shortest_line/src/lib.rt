@@ -12,10 +12,10 @@
 mod answer;
 mod kept;
 mod searching;
-mod text;
-mod walking;
 #[cfg(test)]
 mod tests;
+mod text;
+mod walking;
 
 ghost use Rattle.std.specs.Prelude.{◌≤◌, IfOk};
 ghost use Rattle.game_rules.specs.Belonging.{Belongs};

@@ -131,12 +131,7 @@ impl Search {
     }
 
     /// Runs one level after the other, until a line wins, a further board is met, or no board is left to expand.
-    fn run(
-        &mut self,
-        alloc: Global,
-        rules: &Rules,
-        start: &Board,
-    ) -> Result<Shortest, NoMemory>
+    fn run(&mut self, alloc: Global, rules: &Rules, start: &Board) -> Result<Shortest, NoMemory>
         requires belongs { Belongs rules.now start.now }
         requires level { IsLevel rules.now start.now self.old 0 0 }
         ensures { IfOk result (IsAnswer rules.now start.now self.old.budget.limit) }
