@@ -11,7 +11,7 @@ use Rattle.card_piles.specs.declared.NoMemory.{NoMemory}
 use Rattle.trails.proofs.FreshLaws.{few_places}
 use Rattle.game_rules.specs.declared.RuleParts.{RuleParts}
 use Rattle.game_rules.specs.declared.Move.{Move}
-use Rattle.game_rules.specs.Conflicts.{IsPlayable}
+use Rattle.game_rules.specs.Playable.{IsPlayable}
 use Rattle.game_rules.specs.Board.{Board}
 use Rattle.game_rules.specs.Belonging.{Belongs}
 use Rattle.game_rules.specs.Play.{Legal, after}
