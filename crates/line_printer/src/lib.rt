@@ -8,7 +8,7 @@
 
 mod fault;
 mod laws;
-mod move_of;
+pub mod move_of;
 mod read;
 mod verdict;
 mod write;
