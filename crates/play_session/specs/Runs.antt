@@ -4,6 +4,7 @@ use Rattle.game_rules.specs.declared.RuleParts.{RuleParts}
 use Rattle.game_rules.specs.Board.{Board}
 use Rattle.play_session.specs.declared.order.Order.{Order}
 use Rattle.play_session.specs.Moves.{Moves, after_orders}
+use Rattle.play_session.specs.Held.{Held, Stands}
 
 -- the moves are those after the first of the orders, up to one of them
 pub record IsAfterSome (rules : RuleParts) (start : Board) (from : Moves) (orders : List Order) (to : Moves) : Type 0
@@ -11,3 +12,9 @@ where
   pub count : ℕ
   pub some : count ≤ length orders
   pub moves : to ≡ after_orders rules start from (take count orders)
+
+-- rules and start stay, and the standing moves lead to the board
+pub record Keeps (old new : Held) : Type 0 where
+  pub rules : new.rules ≡ old.rules
+  pub start : new.start ≡ old.start
+  pub stands : Stands new

@@ -1,5 +1,5 @@
 //! A session: moves that are made, taken back and made again.
-ghost use Rattle.std.specs.Prelude.{◌≡◌, ◌<◌, ◌++◌, ◌∷◌, ◌↔◌, length, [], OnOk, OnErr, IfOk, IsErr, Err};
+ghost use Rattle.std.specs.Prelude.{◌≡◌, ◌<◌, ◌≤◌, ◌++◌, ◌∷◌, ◌↔◌, length, [], OnOk, OnErr, IfOk, IsErr, Err};
 ghost use Rattle.game_rules.specs.Belonging.{Belongs};
 ghost use Rattle.game_rules.specs.Conflicts.{IsPlayable};
 ghost use Rattle.game_rules.specs.Play.{Legal};
@@ -11,7 +11,7 @@ use card_piles::NoMemory;
 use game_model::{Board, Rules};
 use legal_moves::{Move, PlayFault};
 use packed_state::{Packed, Undo};
-use std::alloc::Global;
+use std::alloc::{AllocError, Global};
 use std::marker::Model;
 
 /// No move stands that could be taken back.
@@ -72,6 +72,28 @@ fn push_within<T: Drop>(list: &mut Vec<T>, item: T)
     }
 }
 
+/// Sees to room for one more standing move: in the lists of those that stand and of their notes, and,
+/// for when it is taken back, in that of those taken back.
+fn make_room(
+    standing: &mut Vec<Move>,
+    undos: &mut Vec<Undo>,
+    undone: &mut Vec<Move>,
+) -> Result<(), AllocError>
+    ensures standing { standing.new.items ≡ standing.old.items }
+    ensures undos { undos.new.items ≡ undos.old.items }
+    ensures undone { undone.new.items ≡ undone.old.items }
+    ensures standing_grows { standing.old.cap ≤ standing.new.cap }
+    ensures undos_grows { undos.old.cap ≤ undos.new.cap }
+    ensures undone_grows { undone.old.cap ≤ undone.new.cap }
+    ensures standing_room { OnOk result (length standing.old.items < standing.new.cap) }
+    ensures undos_room { OnOk result (length undos.old.items < undos.new.cap) }
+    ensures undone_room { OnOk result (length standing.old.items < undone.new.cap) }
+{
+    standing.reserve(1)?;
+    undos.reserve(1)?;
+    undone.reserve(standing.len() + 1)
+}
+
 impl Session {
     /// The board is the one that the standing moves give from the start.
     pub(crate) fn keep(&self)
@@ -102,20 +124,30 @@ impl Session {
 
     /// Makes a move. It is refused as `NotLegal` exactly where it is not legal. When it is made it
     /// stands last, and no move is taken back any more; after a refusal all is as before.
-    pub fn apply(&mut self, rules: &Rules, _m: Move) -> Result<(), PlayFault>
+    pub fn apply(&mut self, rules: &Rules, m: Move) -> Result<(), PlayFault>
         requires rules { rules.now ≡ self.old.rules }
-        ensures made { OnOk result (self.new.moves ≡ with_made self.old.moves _m) }
+        ensures made { OnOk result (self.new.moves ≡ with_made self.old.moves m) }
         ensures earlier { OnOk result (self.new.earlier ≡ self.old.packed ∷ self.old.earlier) }
-        ensures legal { OnOk result (Legal rules.now (board self.old) _m) }
-        ensures not_legal { (result ≡ Err PlayFault.NotLegal) ↔ ¬ Legal rules.now (board self.old) _m }
+        ensures legal { OnOk result (Legal rules.now (board self.old) m) }
+        ensures not_legal { (result ≡ Err PlayFault.NotLegal) ↔ ¬ Legal rules.now (board self.old) m }
         ensures as_before { OnErr result (self.new ≡ self.old) }
         ensures same_rules { self.new.rules ≡ self.old.rules }
         ensures same_start { self.new.start ≡ self.old.start }
         ensures stands { Stands self.new }
     {
         self.keep();
-        let _ = rules;
-        Err(PlayFault::Memory)
+        if !self.packed.is_legal(rules, m) {
+            return Err(PlayFault::NotLegal);
+        }
+        // Room first, so that all is as before where there is none.
+        if make_room(&mut self.standing, &mut self.undos, &mut self.undone).is_err() {
+            return Err(PlayFault::Memory);
+        }
+        let undo = self.packed.go(rules, m);
+        push_within(&mut self.standing, m);
+        push_within(&mut self.undos, undo);
+        self.undone.clear();
+        Ok(())
     }
 
     /// Takes the last standing move back, which is then the next to be made again. It is refused
