@@ -6,12 +6,12 @@ use Rattle.play_session.specs.declared.order.Order.{Order}
 use Rattle.play_session.specs.Moves.{Moves, after_orders}
 use Rattle.play_session.specs.Held.{Held, Stands}
 
--- the moves are those after the first of the orders, up to one of them
-pub record IsAfterSome (rules : RuleParts) (start : Board) (from : Moves) (orders : List Order) (to : Moves) : Type 0
-where
+-- the moves are those after so many of the orders, from the first on
+pub record IsAfterSome (rules : RuleParts) (start : Board) (old : Moves) (orders : List Order) (new : Moves) : Type 0
+    where
   pub count : ℕ
-  pub some : count ≤ length orders
-  pub moves : to ≡ after_orders rules start from (take count orders)
+  pub within : count ≤ length orders
+  pub moves : new ≡ after_orders rules start old (take count orders)
 
 -- rules and start stay, and the standing moves lead to the board
 pub record Keeps (old new : Held) : Type 0 where

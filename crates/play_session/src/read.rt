@@ -12,6 +12,7 @@ use std::alloc::Global;
 const MOST_BYTES: usize = 65_536;
 
 /// The order whose text this is.
+#[tactic(auto, unfolding(crate::specs::ScriptFile::order_of_text))]
 fn order_of(text: &[u8]) -> Option<Order>
     ensures { result ≡ order_of_text text.now }
 {

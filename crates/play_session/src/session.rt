@@ -1,9 +1,9 @@
 //! A session: moves that are made, taken back and made again.
 ghost use Rattle.std.specs.Prelude.{◌≡◌, ◌<◌, ◌≤◌, ◌++◌, ◌∷◌, ◌↔◌, length, [], OnOk, OnErr, IfOk, IsErr, Err};
 ghost use Rattle.game_rules.specs.Belonging.{Belongs};
-ghost use Rattle.game_rules.specs.Conflicts.{IsPlayable};
 ghost use Rattle.game_rules.specs.Play.{Legal};
 ghost use Rattle.game_rules.specs.Winning.{Line, is_won};
+ghost use Rattle.packed_state.specs.Packed.{board_of};
 ghost use Rattle.play_session.specs.Moves.{no_moves, with_made};
 ghost use Rattle.play_session.specs.Held.{board, Stands};
 
@@ -36,35 +36,24 @@ pub struct Session {
 }
 
 impl Model for Session {
-    ghost use Rattle.std.specs.Prelude.{reverse, vec_capacity, vec_len};
-    ghost use Rattle.game_rules.specs.Conflicts.{IsPlayable};
-    ghost use Rattle.play_session.specs.Moves.{Moves};
-    ghost use Rattle.play_session.specs.Held.{Held, IsHeld, moves_of, earlier};
+    ghost use Rattle.std.specs.Prelude.{length};
+    ghost use Rattle.play_session.specs.Held.{Held, IsHeld, HaveRoom, held};
 
     ghost Value = { Held };
 
-    ghost view = { λ s. record {
-      rules = s.rules;
-      start = s.start;
-      moves = moves_of s.standing.items s.undone.items;
-      packed = s.packed;
-      earlier = earlier (reverse s.undos.items) s.packed;
-    } };
+    ghost view = { λ s. held s.rules s.start s.standing.items s.undone.items s.packed s.undos.items };
 
-    ghost invariant = { λ s. IsHeld (record {
-      rules = s.rules;
-      start = s.start;
-      moves = moves_of s.standing.items s.undone.items;
-      packed = s.packed;
-      earlier = earlier (reverse s.undos.items) s.packed;
-    }) (vec_len s.undos) (vec_capacity s.standing) (vec_capacity s.undos) (vec_capacity s.undone) };
+    ghost invariant = { λ s.
+        let now : Held = held s.rules s.start s.standing.items s.undone.items s.packed s.undos.items in
+        IsHeld now (length s.undos.items)
+        × HaveRoom now.moves s.standing.cap s.undos.cap s.undone.cap };
 }
 
 /// Appends an item where there is room for it.
 fn push_within<T: Drop>(list: &mut Vec<T>, item: T)
     requires room { length list.old.items < list.old.cap }
     ensures items { list.new.items ≡ list.old.items ++ item ∷ [] }
-    ensures capacity { list.new.cap ≡ list.old.cap }
+    ensures capacity { list.old.cap ≤ list.new.cap }
 {
     match list.push(item) {
         Ok(()) => {}
@@ -95,10 +84,11 @@ fn make_room(
 }
 
 impl Session {
-    /// The board is the one that the standing moves give from the start.
-    pub(crate) fn keep(&self)
+    /// The packed board is the one that the standing moves give from the start.
+    fn keep(&self)
         ensures stands { Stands self.now }
-        ensures playable { IsPlayable self.now.rules }
+        ensures here { board_of self.now.packed ≡ board self.now }
+        ensures belongs { Belongs self.now.rules (board self.now) }
     {
         let _ = &self.packed;
     }
