@@ -113,14 +113,17 @@ fn run_order(
         (order ∷ []) session.new.moves) }
     ensures keeps { Keeps session.old session.new }
 {
-    let said = match order {
-        Order::Make(m) => make(session, rules, m)?,
-        Order::Undo => undo(session),
-        Order::Redo => redo(session, rules),
-        Order::Show => return show(alloc, session, rules, out),
-        Order::Solved => solved(session, rules),
-    };
-    push_line(out, said.as_bytes())
+    session.keep();
+    match order {
+        Order::Make(m) => {
+            let said = make(session, rules, m)?;
+            push_line(out, said.as_bytes())
+        }
+        Order::Undo => push_line(out, undo(session).as_bytes()),
+        Order::Redo => push_line(out, redo(session, rules).as_bytes()),
+        Order::Show => show(alloc, session, rules, out),
+        Order::Solved => push_line(out, solved(session, rules).as_bytes()),
+    }
 }
 
 /// Appends how many moves stand.
@@ -152,6 +155,7 @@ fn run_orders(
         orders.now session.new.moves) }
     ensures keeps { Keeps session.old session.new }
 {
+    session.keep();
     for order in orders {
         run_order(alloc, session, rules, *order, out)?;
     }

@@ -85,7 +85,7 @@ fn make_room(
 
 impl Session {
     /// The packed board is the one that the standing moves give from the start.
-    fn keep(&self)
+    pub(crate) fn keep(&self)
         ensures stands { Stands self.now }
         ensures here { board_of self.now.packed ≡ board self.now }
         ensures belongs { Belongs self.now.rules (board self.now) }
@@ -130,9 +130,9 @@ impl Session {
             return Err(PlayFault::NotLegal);
         }
         // Room first, so that all is as before where there is none.
-        if make_room(&mut self.standing, &mut self.undos, &mut self.undone).is_err() {
+        let Ok(()) = make_room(&mut self.standing, &mut self.undos, &mut self.undone) else {
             return Err(PlayFault::Memory);
-        }
+        };
         let undo = self.packed.go(rules, m);
         push_within(&mut self.standing, m);
         push_within(&mut self.undos, undo);
