@@ -137,3 +137,35 @@ pub none_left : (rules : RuleParts) (board : Board) (left : List Move) → left 
     → Line rules board (reverse left) board
 none_left rules board left t =
     let P : List Move → Type 0 = λ ms. Line rules board ms board in subst P (sym (ap reverse t)) refl
+
+-- the lists keep their room where a move goes from one end to the other
+pub room_kept : (standing undone stood left : List Move) (m : Move) (a b c x y z : ℕ)
+    → HaveRoom (record { standing = standing; undone = undone }) a b c → standing ≡ stood ++ m ∷ []
+    → left ≡ undone ++ m ∷ [] → a ≤ x → b ≤ y → c ≤ z → HaveRoom (record { standing = stood; undone = left }) x y z
+room_kept standing undone stood left m a b c x y z room s t p q r =
+    let one : length standing ≡ length stood + 1 = ap length s ∙ length-append stood (m ∷ []) in
+    let two : length left ≡ length undone + 1 = ap length t ∙ length-append undone (m ∷ []) in
+    let f = room.standing_room in
+    let g = room.notes_room in
+    let h = room.undone_room in
+    record {
+      standing_room = omega (arith, one, two, f, p);
+      notes_room = omega (arith, one, two, g, q);
+      undone_room = omega (arith, one, two, h, r);
+    }
+
+-- and back
+pub room_again : (standing undone stood left : List Move) (m : Move) (a b c x y z : ℕ)
+    → HaveRoom (record { standing = standing; undone = undone }) a b c → undone ≡ left ++ m ∷ []
+    → stood ≡ standing ++ m ∷ [] → a ≤ x → b ≤ y → c ≤ z → HaveRoom (record { standing = stood; undone = left }) x y z
+room_again standing undone stood left m a b c x y z room s t p q r =
+    let one : length undone ≡ length left + 1 = ap length s ∙ length-append left (m ∷ []) in
+    let two : length stood ≡ length standing + 1 = ap length t ∙ length-append standing (m ∷ []) in
+    let f = room.standing_room in
+    let g = room.notes_room in
+    let h = room.undone_room in
+    record {
+      standing_room = omega (arith, one, two, f, p);
+      notes_room = omega (arith, one, two, g, q);
+      undone_room = omega (arith, one, two, h, r);
+    }
