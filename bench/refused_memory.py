@@ -74,6 +74,9 @@ CLUBS_DEAL = b'{"foundations":[0,13,13,13],"stock":["KC","QC","JC","TC","9C","8C
 ROWS = [
     "solve clubs clubs-deal --cache 1",
     "solve games/freecell.json deals/freecell-27675.json --cache 1",
+    # The restricted search wins here, and gives up in the row below.
+    "solve clubs clubs-deal --cache 1 --narrow 30",
+    "solve games/freecell.json deals/freecell-27675.json --cache 1 --narrow 30",
     "solve games/klondike.json --seed 5 --cache 20 --nodes 300",
     "solve games/gaps.json --seed 1 --cache 3 --nodes 200",
     "solve games/spider.json --seed 3 --cache 5 --nodes 60",

@@ -1,7 +1,8 @@
 //! Cards: made from a suit and a rank, and read again.
 
 ghost use Rattle.std.specs.Prelude.{◌<◌, ◌↔◌, ◌≡◌, IfSome, IsSome};
-ghost use Rattle.card_piles.specs.Cards.{IsRank, is_red, number_of};
+ghost use Rattle.card_piles.specs.Cards.{is_red, number_of};
+ghost use Rattle.card_piles.specs.Ranks.{IsRank};
 
 use crate::{Card, Suit};
 

@@ -1,7 +1,8 @@
 //! The texts of cards: the letter of a rank, and then the letter of a suit.
 
 ghost use Rattle.std.specs.Prelude.{[], ◌∷◌, ◌≡◌, ◌⊎◌, ℕ, IfSome, List};
-ghost use Rattle.card_piles.specs.Cards.{CardValue, IsRank};
+ghost use Rattle.card_piles.specs.Cards.{CardValue};
+ghost use Rattle.card_piles.specs.Ranks.{IsRank};
 ghost use Rattle.card_piles.specs.CardText.{card_of_text, rank_letter, rank_of_letter, suit_letter};
 ghost use Rattle.card_piles.specs.CardText.{suit_of_letter, text_of_card};
 

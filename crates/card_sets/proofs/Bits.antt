@@ -9,7 +9,8 @@ use Rattle.std.proofs.lemmas.Nat.Bits.{bit_at_and, bit_at_ones, bit_at_set_same,
 use Rattle.card_piles.specs.declared.Card.{Card}
 use Rattle.card_piles.specs.declared.Suit.{Suit}
 use Rattle.card_piles.specs.declared.Suit.TheVariants.{Clubs, Diamonds, Hearts, Spades}
-use Rattle.card_piles.specs.Cards.{place_of, IsRank}
+use Rattle.card_piles.specs.Cards.{place_of}
+use Rattle.card_piles.specs.Ranks.{IsRank}
 use Rattle.card_sets.specs.Sets.{bit_of, is_card}
 
 place-lt : (suit : Suit) → place_of suit < 4

@@ -9,7 +9,7 @@
 
 ghost use Rattle.std.specs.Prelude.{◌≡◌, ◌<◌, true, false, ◌||◌, ◌==◌};
 ghost use Rattle.card_piles.specs.declared.Card.{Card};
-ghost use Rattle.card_piles.specs.Cards.{IsRank};
+ghost use Rattle.card_piles.specs.Ranks.{IsRank};
 ghost use Rattle.card_sets.specs.Sets.{bit_of, has, has_bit, is_card};
 
 use card_piles::{Card, Suit};

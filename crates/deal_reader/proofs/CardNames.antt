@@ -8,7 +8,7 @@ use Rattle.std.proofs.lemmas.Str.Ascii.{IsAscii-from_all}
 use Rattle.card_piles.specs.declared.Card.{Card}
 use Rattle.card_piles.specs.declared.Suit.{Suit}
 use Rattle.card_piles.specs.declared.Suit.TheVariants.{Clubs, Diamonds, Hearts, Spades}
-use Rattle.card_piles.specs.Cards.{IsRank}
+use Rattle.card_piles.specs.Ranks.{IsRank}
 use Rattle.card_piles.specs.CardText.{suit_letter, rank_letter, text_of_card}
 
 pick : (b : Bool) (x rest : ℕ) → x < 128 → rest < 128 → cond b x rest < 128

@@ -21,7 +21,8 @@ use Rattle.game_rules.specs.declared.Redeals.{Redeals}
 use Rattle.game_rules.specs.declared.Redeals.TheVariants.{Times, Unlimited}
 use Rattle.game_rules.specs.declared.BoardFault.{BoardFault}
 use Rattle.game_rules.specs.declared.BoardFault.TheVariants.{PlaceFull}
-use Rattle.game_rules.specs.Conflicts.{IsPlayable, HasLimits, are_redeals_within}
+use Rattle.game_rules.specs.Conflicts.{are_redeals_within}
+use Rattle.game_rules.specs.Playable.{IsPlayable, HasLimits}
 use Rattle.game_rules.specs.Board.{Board, Pile, empty_pile}
 use Rattle.game_rules.specs.Belonging.{Belongs, most_redeals, foundation_count, copies_of, copies_in_piles}
 use Rattle.game_rules.specs.Belonging.{copies_at_home, copies_on, copies_due}
@@ -30,7 +31,8 @@ use Rattle.game_rules.specs.Position.{cells_full, reserve_full, stock_full, wast
 use Rattle.game_rules.specs.Position.{rows_full, first_full, filled, pile_of, board_of_parts, deck_size, is_missing}
 use Rattle.game_rules.specs.Position.{is_extra, first_card, card_fault, place_fault, fault_of}
 use Rattle.game_rules.proofs.Limits.{both, numbers_within, limits_of}
-use Rattle.game_rules.proofs.PositionFacts.{NoneIsFull, none_is_full}
+use Rattle.game_rules.specs.NoneFull.{NoneIsFull}
+use Rattle.game_rules.proofs.PositionFacts.{none_is_full}
 use Rattle.game_rules.proofs.FewCards.{each_place-few}
 use Rattle.deal_reader.specs.declared.deal.DealParts.{DealParts}
 use Rattle.deal_reader.specs.Position.{default_face_down, face_down_or_default, parts_of_deal, has_great_number}

@@ -5,15 +5,16 @@ use Rattle.std.specs.List.{All, flat_map, range_with_len}
 use Rattle.std.proofs.lemmas.List.Elements.{All-nil, All-cons, All-head, All-tail, All-take, All-drop}
 use Rattle.std.proofs.lemmas.Bool.{leb-true}
 use Rattle.card_piles.specs.declared.Card.{Card}
-use Rattle.card_piles.specs.Cards.{IsRank}
+use Rattle.card_piles.specs.Ranks.{IsRank}
 use Rattle.game_rules.specs.declared.RuleParts.{RuleParts}
 use Rattle.game_rules.specs.declared.BoardParts.{BoardParts}
 use Rattle.game_rules.specs.Rules.{is_sequence_goal}
-use Rattle.game_rules.specs.Conflicts.{HasLimits}
+use Rattle.game_rules.specs.Playable.{HasLimits}
 use Rattle.game_rules.specs.Board.{Board, Pile}
 use Rattle.game_rules.specs.Belonging.{Belongs, same_card, copies_of, copies_due}
 use Rattle.game_rules.specs.Winning.{row_at}
-use Rattle.game_rules.specs.Position.{AreCards, AreEntries, parts_of, row_count}
+use Rattle.game_rules.specs.Position.{parts_of, row_count}
+use Rattle.game_rules.specs.Ranked.{AreCards, AreEntries}
 use Rattle.game_rules.proofs.Limits.{both}
 use Rattle.game_rules.proofs.Copies.{copies-cons}
 use Rattle.game_rules.proofs.FewCards.{cards_of, home_cards, all_cards, cards_to_piles, cards_to_cells}

@@ -16,7 +16,7 @@ use Rattle.json_tree.proofs.Reading.{tree_of-read, object_of-tree}
 use Rattle.card_piles.specs.declared.Card.{Card}
 use Rattle.card_piles.specs.declared.Suit.{Suit}
 use Rattle.card_piles.specs.declared.Suit.TheVariants.{Clubs, Diamonds, Hearts, Spades}
-use Rattle.card_piles.specs.Cards.{IsRank}
+use Rattle.card_piles.specs.Ranks.{IsRank}
 use Rattle.card_piles.specs.CardText.{suit_letter, suit_of_letter, rank_letter, rank_of_letter, card_with}
 use Rattle.card_piles.specs.CardText.{card_of_text, text_of_card}
 use Rattle.game_rules.specs.declared.RuleParts.{RuleParts}
@@ -26,10 +26,11 @@ use Rattle.game_rules.specs.declared.BoardFault.TheVariants.{PlaceFull}
 use Rattle.game_rules.specs.declared.Face.{Face}
 use Rattle.game_rules.specs.declared.Part.{Part}
 use Rattle.game_rules.specs.declared.Part.TheVariants as part
-use Rattle.game_rules.specs.Conflicts.{IsPlayable}
+use Rattle.game_rules.specs.Playable.{IsPlayable}
 use Rattle.game_rules.specs.Board.{Board, Pile, empty_pile}
 use Rattle.game_rules.specs.Belonging.{Belongs, lies_well}
-use Rattle.game_rules.specs.Position.{AreCards, AreEntries, parts_of, fault_of, tableau_full}
+use Rattle.game_rules.specs.Position.{parts_of, fault_of, tableau_full}
+use Rattle.game_rules.specs.Ranked.{AreCards, AreEntries}
 use Rattle.game_rules.proofs.Limits.{both, limits_of}
 use Rattle.game_rules.proofs.FewCards.{each_place-few}
 use Rattle.game_rules.proofs.BelongingExactly.{board-of_its_parts, parts-have_no_fault}

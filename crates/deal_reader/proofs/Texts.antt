@@ -20,7 +20,7 @@ use Rattle.game_rules.specs.declared.BoardParts.{BoardParts}
 use Rattle.game_rules.specs.declared.Face.{Face}
 use Rattle.game_rules.specs.declared.Face.TheVariants.{AllUp, TopUp}
 use Rattle.game_rules.specs.Rules.{is_foundation_goal, is_sequence_goal}
-use Rattle.game_rules.specs.Conflicts.{IsPlayable}
+use Rattle.game_rules.specs.Playable.{IsPlayable}
 use Rattle.game_rules.specs.Board.{Board, Pile, empty_pile}
 use Rattle.game_rules.specs.Winning.{row_at}
 use Rattle.game_rules.specs.Belonging.{Belongs, lies_well}

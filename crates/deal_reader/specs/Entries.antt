@@ -1,6 +1,6 @@
 -- The entries of a part in the tree of a deal file, each read at its place in the part.
 use Rattle.std.specs.Prelude.{ℕ, ◌+◌, ◌-◌, ◌^◌, min, List, [], ◌∷◌, length, Option, Some, None, is_some, Result, Ok}
-use Rattle.std.specs.Prelude.{Err, ◌≡◌, ◌⊎◌, if◌then◌else◌}
+use Rattle.std.specs.Prelude.{Err, if◌then◌else◌}
 use Rattle.serde_json.specs.Data.{Data, Items, no_items, item}
 use Rattle.serde_json.specs.Find.{as_null, as_str, as_array}
 use Rattle.json_tree.specs.Choice.{◌>>=◌}
@@ -9,12 +9,7 @@ use Rattle.card_piles.specs.declared.Card.{Card}
 use Rattle.card_piles.specs.CardText.{card_of_text}
 use Rattle.game_rules.specs.declared.Part.{Part}
 use Rattle.deal_reader.specs.declared.fault.DealFault.{DealFault}
-use Rattle.deal_reader.specs.declared.fault.DealFault.TheVariants.{WrongType, NotACard, Memory}
-
--- the answer is this value, unless memory was refused
-abbrev pub IsReadAs : {A : Type 0} → Result A DealFault → Result A DealFault → Type 0
-IsReadAs (Ok x) value = value ≡ Ok x
-IsReadAs (Err fault) value = (fault ≡ Memory) ⊎ (value ≡ Err fault)
+use Rattle.deal_reader.specs.declared.fault.DealFault.TheVariants.{WrongType, NotACard}
 
 -- a value of the part's type
 abbrev pub or_wrong_type : {A : Type 0} → Part → Option A → Result A DealFault

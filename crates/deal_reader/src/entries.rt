@@ -2,7 +2,8 @@
 
 ghost use Rattle.std.specs.Prelude.{◌≡◌};
 ghost use Rattle.serde_json.specs.View.{view, items_view};
-ghost use Rattle.deal_reader.specs.Entries.{card_at, entry_at, number_at, place_after as place_after_count, IsReadAs};
+ghost use Rattle.deal_reader.specs.Entries.{card_at, entry_at, number_at, place_after as place_after_count};
+ghost use Rattle.deal_reader.specs.ReadAs.{IsReadAs};
 ghost use Rattle.deal_reader.specs.Entries.{entries_from, list_at, lists_from, lists_at};
 
 use crate::fault::DealFault;

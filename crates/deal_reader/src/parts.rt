@@ -3,7 +3,8 @@ ghost use Rattle.std.specs.Prelude.{◌≡◌, [], IfOk, codes, replicate, optio
 ghost use Rattle.serde_json.specs.View.{view};
 ghost use Rattle.game_rules.specs.Rules.{is_started};
 ghost use Rattle.game_rules.specs.Belonging.{most_redeals};
-ghost use Rattle.deal_reader.specs.Entries.{IsReadAs, card_at, entry_at, number_at, list_at, lists_at};
+ghost use Rattle.deal_reader.specs.Entries.{card_at, entry_at, number_at, list_at, lists_at};
+ghost use Rattle.deal_reader.specs.ReadAs.{IsReadAs};
 ghost use Rattle.deal_reader.specs.Position.{or_default, if_there, default_foundations, keys_known, deal_of_tree};
 
 use crate::deal::DealParts;

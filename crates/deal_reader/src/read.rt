@@ -4,7 +4,7 @@ ghost use Rattle.std.specs.List.{list_any};
 ghost use Rattle.serde_json.specs.View.{view};
 ghost use Rattle.game_rules.specs.Belonging.{Belongs};
 ghost use Rattle.game_rules.specs.Position.{tableau_full};
-ghost use Rattle.deal_reader.specs.Entries.{IsReadAs};
+ghost use Rattle.deal_reader.specs.ReadAs.{IsReadAs};
 ghost use Rattle.deal_reader.specs.Position.{default_face_down, face_down_or_default, has_great_number, parts_of_deal};
 ghost use Rattle.deal_reader.specs.Position.{position_of_deal, position_of_tree, position_of};
 ghost use Rattle.deal_reader.specs.Bytes.{narrow, narrowed};

@@ -54,7 +54,9 @@ pub trait Space {
     /// Takes a step back, to the very space before it.
     fn back(&mut self, undo: Self::Undo)
         requires { IsSome (before undo self.old) }
-        ensures { before undo self.old ≡ Some self.new };
+        ensures undone { before undo self.old ≡ Some self.new }
+        ensures play { play self.new ≡ play self.old }
+        ensures wins { (n : ℕ) (s : Self.State) → wins self.new n s ↔ wins self.old n s };
 
     /// Whether the state is won.
     fn is_won(&self) -> bool

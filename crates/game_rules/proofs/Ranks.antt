@@ -6,13 +6,13 @@ use Rattle.std.proofs.lemmas.List.Elements.{All-nil, All-cons}
 use Rattle.std.proofs.lemmas.List.Sums.{sum_by-cons}
 use Rattle.std.proofs.lemmas.Bool.{leb-true}
 use Rattle.card_piles.specs.declared.Card.{Card}
-use Rattle.card_piles.specs.Cards.{IsRank}
+use Rattle.card_piles.specs.Ranks.{IsRank}
 use Rattle.game_rules.specs.declared.RuleParts.{RuleParts}
 use Rattle.game_rules.specs.Rules.{is_sequence_goal}
-use Rattle.game_rules.specs.Conflicts.{HasLimits}
+use Rattle.game_rules.specs.Playable.{HasLimits}
 use Rattle.game_rules.specs.Board.{Board, Pile}
 use Rattle.game_rules.specs.Belonging.{Belongs, holds, copies_of, copies_in, copies_in_piles, copies_on, copies_due}
-use Rattle.game_rules.specs.Position.{HasRanks}
+use Rattle.game_rules.specs.Ranked.{HasRanks}
 use Rattle.game_rules.proofs.Limits.{both}
 use Rattle.game_rules.proofs.Copies.{copies-cons}
 use Rattle.game_rules.proofs.FewCards.{counts_itself, due_then}

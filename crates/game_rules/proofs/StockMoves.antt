@@ -11,12 +11,12 @@ use Rattle.game_rules.specs.declared.Move.TheVariants.{Carry, Deal, Redeal}
 use Rattle.game_rules.specs.declared.Target.{Target}
 use Rattle.game_rules.specs.declared.Target.TheVariants.{ToWaste, ToTableau, ToHole}
 use Rattle.game_rules.specs.Rules.{deals_to_waste, is_unlimited}
-use Rattle.game_rules.specs.Conflicts.{IsPlayable}
+use Rattle.game_rules.specs.Playable.{IsPlayable}
 use Rattle.game_rules.specs.Belonging.{Belongs}
 use Rattle.game_rules.specs.Board.{Board, Pile, top_part, below_top}
 use Rattle.game_rules.specs.Play.{Legal, is_empty, is_legal_redeal, dealt_each, after, after_deal_to}
-use Rattle.game_rules.specs.StockMoves.{is_carry, IsNextByStock, stock_move, after_stock_move, after_stock_moves}
-use Rattle.game_rules.specs.StockMoves.{HasStockMoves, queue}
+use Rattle.game_rules.specs.StockMoves.{is_carry, stock_move, after_stock_move, after_stock_moves}
+use Rattle.game_rules.specs.NextByStock.{IsNextByStock, HasStockMoves, queue}
 use Rattle.game_rules.proofs.Limits.{both}
 use Rattle.game_rules.proofs.KeepsBelonging.{belongs-after}
 

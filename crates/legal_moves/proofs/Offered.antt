@@ -15,7 +15,7 @@ use Rattle.std.proofs.lemmas.Bool.Decides.{nat_tests}
 use Rattle.std.proofs.lemmas.Bool.{lt-ltb, ltb-true, leb-true, eqb-true, false_from_ne_true}
 use Rattle.std.proofs.Math.Bool.{and-true, and-false}
 use Rattle.card_piles.specs.declared.Card.{Card}
-use Rattle.card_piles.specs.Cards.{IsRank}
+use Rattle.card_piles.specs.Ranks.{IsRank}
 use Rattle.card_sets.specs.declared.CardSet.{CardSet}
 use Rattle.card_sets.specs.declared.CardBit.{CardBit}
 use Rattle.card_sets.specs.Sets.{bit_of, has, has_bit}
@@ -31,7 +31,7 @@ use Rattle.game_rules.specs.Taking.{can_take, taken, single_at, most_taken}
 use Rattle.game_rules.specs.Putting.{can_put, goes_on_pile}
 use Rattle.game_rules.specs.Play.{is_legal_move, same_place}
 use Rattle.game_rules.proofs.Limits.{both}
-use Rattle.game_rules.proofs.Listing.{legal_between}
+use Rattle.game_rules.specs.ByPlace.{legal_between}
 use Rattle.legal_moves.specs.declared.offers.Offer.{Offer}
 use Rattle.legal_moves.specs.Fits.{takes_groups, Fits}
 use Rattle.legal_moves.specs.Runs.{most_given}

@@ -1,7 +1,7 @@
 -- The sets of cards that places accept.
 use Rattle.std.specs.Prelude.{◌≡◌, Bool, true, false, ◌==◌, ◌&&◌, ◌||◌, not, List, ◌∷◌, length}
 use Rattle.card_piles.specs.declared.Card.{Card}
-use Rattle.card_piles.specs.Cards.{IsRank}
+use Rattle.card_piles.specs.Ranks.{IsRank}
 use Rattle.card_sets.specs.declared.CardSet.{CardSet}
 use Rattle.card_sets.specs.Sets.{has}
 use Rattle.game_rules.specs.declared.RuleParts.{RuleParts}

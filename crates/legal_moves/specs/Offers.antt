@@ -2,7 +2,7 @@
 use Rattle.std.specs.Prelude.{◌≡◌, ℕ, ◌+◌, true, List, ◌∷◌, map, take, length, slice_get, Option, None, if◌then◌else◌}
 use Rattle.std.specs.List.{filter}
 use Rattle.card_piles.specs.declared.Card.{Card}
-use Rattle.card_piles.specs.Cards.{IsRank}
+use Rattle.card_piles.specs.Ranks.{IsRank}
 use Rattle.card_sets.specs.Sets.{bit_of}
 use Rattle.game_rules.specs.declared.RuleParts.{RuleParts}
 use Rattle.game_rules.specs.declared.Move.{Move}

@@ -1,7 +1,7 @@
 //! Which cards a place accepts: a set of cards, made once for the place.
 ghost use Rattle.std.specs.Prelude.{◌≡◌, ℕ, ◌≤◌, ◌<◌, ◌+◌, ◌==◌, ◌||◌, ◌&&◌, true, IsTrue, length};
 ghost use Rattle.card_piles.specs.declared.Card.{Card};
-ghost use Rattle.card_piles.specs.Cards.{IsRank};
+ghost use Rattle.card_piles.specs.Ranks.{IsRank};
 ghost use Rattle.card_piles.specs.Builds.{same_suit, suits_fit, ranks_fit, builds_on};
 ghost use Rattle.card_sets.specs.Sets.{has};
 ghost use Rattle.game_rules.specs.Rules.{hole_wraps};

@@ -6,7 +6,7 @@ ghost use Rattle.game_rules.specs.declared.Place.TheVariants.{Tableau};
 ghost use Rattle.game_rules.specs.Board.{pile_at, has_place};
 ghost use Rattle.game_rules.specs.Belonging.{Belongs};
 ghost use Rattle.game_rules.specs.Order.{sources};
-ghost use Rattle.game_rules.proofs.Listing.{legal_between, legal_to};
+ghost use Rattle.game_rules.specs.ByPlace.{legal_between, legal_to};
 ghost use Rattle.legal_moves.specs.Fits.{takes_groups};
 ghost use Rattle.legal_moves.specs.Kinds.{place_in};
 ghost use Rattle.legal_moves.specs.Offers.{IsGiven, legal_of};

@@ -15,7 +15,8 @@ use Rattle.game_rules.specs.declared.Move.{Move}
 use Rattle.game_rules.specs.Play.{is_empty}
 use Rattle.line_printer.specs.declared.fault.LineFault.{LineFault}
 use Rattle.line_printer.specs.declared.fault.LineFault.TheVariants.{TooLong, BadMove}
-use Rattle.line_printer.specs.MoveText.{move_text, move_of_text, IsSmall}
+use Rattle.line_printer.specs.MoveText.{move_text, move_of_text}
+use Rattle.line_printer.specs.SmallMoves.{IsSmall}
 use Rattle.line_printer.specs.LineFile.{ended, line_text, parts_of, newlines, after_line, has_head, past_head}
 use Rattle.line_printer.specs.LineFile.{with_move, moves_from, line_within, most_bytes, line_of}
 use Rattle.line_printer.specs.Reads.{ReadsAs}

@@ -11,7 +11,8 @@ use Rattle.game_rules.specs.declared.Move.{Move}
 use Rattle.game_rules.specs.declared.Move.TheVariants.{Carry, Deal, Redeal}
 use Rattle.game_rules.specs.declared.Place.{Place}
 use Rattle.game_rules.specs.Play.{number_of_place}
-use Rattle.line_printer.specs.MoveText.{place_text, shows_count, move_text, IsSmall, number_of, place_of_text}
+use Rattle.line_printer.specs.MoveText.{place_text, shows_count, move_text, number_of, place_of_text}
+use Rattle.line_printer.specs.SmallMoves.{IsSmall}
 use Rattle.line_printer.specs.MoveText.{short_carry, long_carry, move_of_words, move_of_text}
 use Rattle.line_printer.proofs.Places.{cond_gives, number_of_some, place_written}
 use Rattle.line_printer.proofs.Words.{words_of}

@@ -7,10 +7,11 @@ use Rattle.std.proofs.lemmas.List.Elements.{All-append}
 use Rattle.card_piles.specs.declared.NoMemory.{NoMemory}
 use Rattle.game_rules.specs.declared.Move.{Move}
 use Rattle.line_printer.specs.declared.verdict.Verdict.TheVariants.{Winnable}
-use Rattle.line_printer.specs.MoveText.{IsSmall}
+use Rattle.line_printer.specs.SmallMoves.{IsSmall}
 use Rattle.line_printer.specs.LineFile.{ended, line_text, most_bytes, line_of}
 use Rattle.line_printer.specs.Fitting.{Fitting}
-use Rattle.line_printer.specs.VerdictText.{output_of, ReadsBack}
+use Rattle.line_printer.specs.VerdictText.{output_of}
+use Rattle.line_printer.specs.ReadsBack.{ReadsBack}
 use Rattle.line_printer.proofs.Blanks.{IsVisible-decimal, no_byte}
 use Rattle.line_printer.proofs.MovesRead.{IsOnOneLine, word_on_one_line}
 use Rattle.line_printer.proofs.FilesRead.{headed, line_of-line_text, line_of-headed}

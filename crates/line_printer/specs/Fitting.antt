@@ -2,7 +2,7 @@
 use Rattle.std.specs.Prelude.{ℕ, ◌<◌, ◌^◌, List, length}
 use Rattle.std.specs.List.{All}
 use Rattle.game_rules.specs.declared.Move.{Move}
-use Rattle.line_printer.specs.MoveText.{IsSmall}
+use Rattle.line_printer.specs.SmallMoves.{IsSmall}
 
 -- the line and the numbers of a winnable verdict fit their types
 pub record Fitting (line : List Move) (nodes narrow_nodes : ℕ) : Type 0 where

@@ -1,10 +1,10 @@
 -- The texts of moves, written and read.
-use Rattle.std.specs.Prelude.{ℕ, ◌<◌, Bool, true, false, not, ◌==◌, ◌&&◌, ◌||◌, nat_lt, List, [], ◌∷◌, ◌++◌, Option}
+use Rattle.std.specs.Prelude.{ℕ, Bool, true, false, not, ◌==◌, ◌&&◌, ◌||◌, nat_lt, List, [], ◌∷◌, ◌++◌, Option}
 use Rattle.std.specs.Prelude.{Some, None, codes, decimal, if◌then◌else◌}
 use Rattle.std.specs.List.{slice_split}
 use Rattle.std.specs.Str.{bytes_eq}
 use Rattle.std.specs.Str.Parse.{digits_value}
-use Rattle.game_rules.specs.Play.{is_empty, number_of_place}
+use Rattle.game_rules.specs.Play.{is_empty}
 use Rattle.game_rules.specs.declared.Move.{Move}
 use Rattle.game_rules.specs.declared.Move.TheVariants.{Carry, Deal, Redeal}
 use Rattle.game_rules.specs.declared.Place.{Place}
@@ -36,12 +36,6 @@ move_text (Carry from to count) =
     ++ (if shows_count from to count then codes " " ++ decimal count else [])
 move_text Deal = codes "deal"
 move_text Redeal = codes "redeal"
-
--- the numbers of a move are from 0 to 255, as those of every `Move` are
-abbrev pub IsSmall : Move → Type 0
-IsSmall (Carry from to count) = (number_of_place from < 256) × (number_of_place to < 256) × (count < 256)
-IsSmall Deal = Unit {0}
-IsSmall Redeal = Unit {0}
 
 -- the number from 0 to 255 whose decimal text this is
 unfoldable pub number_of : List ℕ → Option ℕ

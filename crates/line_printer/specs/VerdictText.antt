@@ -1,8 +1,8 @@
 -- The text of a verdict.
-use Rattle.std.specs.Prelude.{ℕ, ◌≡◌, List, ◌++◌, Ok, length, codes, decimal}
+use Rattle.std.specs.Prelude.{ℕ, List, ◌++◌, length, codes, decimal}
 use Rattle.line_printer.specs.declared.verdict.Verdict.{Verdict}
 use Rattle.line_printer.specs.declared.verdict.Verdict.TheVariants.{Winnable, Unwinnable, Undecided}
-use Rattle.line_printer.specs.LineFile.{ended, line_text, line_of}
+use Rattle.line_printer.specs.LineFile.{ended, line_text}
 
 -- the lines that open the text of each verdict: its kind, and the nodes of the plain and of the narrow search
 abbrev pub head_text : List ℕ → ℕ → ℕ → List ℕ
@@ -15,9 +15,3 @@ output_of (Winnable line nodes narrow_nodes) =
     head_text (codes "winnable") nodes narrow_nodes ++ ended (codes "moves " ++ decimal (length line)) ++ line_text line
 output_of (Unwinnable nodes narrow_nodes) = head_text (codes "unwinnable") nodes narrow_nodes
 output_of (Undecided nodes narrow_nodes) = head_text (codes "undecided") nodes narrow_nodes
-
--- the text of a winnable verdict is a line file that gives its line
-abbrev pub ReadsBack : List ℕ → Verdict → Type 0
-ReadsBack text (Winnable line nodes narrow_nodes) = line_of text ≡ Ok line
-ReadsBack text (Unwinnable nodes narrow_nodes) = Unit {0}
-ReadsBack text (Undecided nodes narrow_nodes) = Unit {0}

@@ -1,7 +1,8 @@
 //! Laws of the texts of moves, each the contract of a function that does nothing.
 ghost use Rattle.std.specs.Prelude.{◌≡◌, ℕ, List, Some};
 ghost use Rattle.game_rules.specs.declared.Move.{Move};
-ghost use Rattle.line_printer.specs.MoveText.{move_text, move_of_text, IsSmall};
+ghost use Rattle.line_printer.specs.MoveText.{move_text, move_of_text};
+ghost use Rattle.line_printer.specs.SmallMoves.{IsSmall};
 
 /// The text of a move reads as the move.
 pub fn move_texts_read_back()

@@ -2,7 +2,8 @@
 ghost use Rattle.std.specs.Prelude.{◌≡◌, ◌++◌, ◌≤◌, length, IfOk, string_bytes};
 ghost use Rattle.line_printer.specs.LineFile.{most_bytes};
 ghost use Rattle.line_printer.specs.Fitting.{Fitting};
-ghost use Rattle.line_printer.specs.VerdictText.{output_of, ReadsBack};
+ghost use Rattle.line_printer.specs.VerdictText.{output_of};
+ghost use Rattle.line_printer.specs.ReadsBack.{ReadsBack};
 
 use crate::write::push_moves;
 use card_piles::NoMemory;

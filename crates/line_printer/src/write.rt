@@ -2,7 +2,8 @@
 ghost use Rattle.std.specs.Prelude.{◌≡◌, ◌++◌, ◌∷◌, ◌<◌, ◌≤◌, [], length, IfOk, string_bytes};
 ghost use Rattle.std.specs.List.{All};
 ghost use Rattle.game_rules.specs.Play.{number_of_place};
-ghost use Rattle.line_printer.specs.MoveText.{place_text, is_pile, IsSmall, shows_count as shows_count_of, move_text};
+ghost use Rattle.line_printer.specs.MoveText.{place_text, is_pile, shows_count as shows_count_of, move_text};
+ghost use Rattle.line_printer.specs.SmallMoves.{IsSmall};
 ghost use Rattle.line_printer.specs.LineFile.{line_text, most_bytes, line_of};
 
 use card_piles::NoMemory;

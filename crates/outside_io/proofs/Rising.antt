@@ -1,6 +1,7 @@
 -- A count that is raised by one, or stands at its last value, rose.
 use Rattle.std.proofs.Common.{◌≡◌, ◌≤◌, ℕ, sym, subst, inl, inr, ⊎_elim, arith}
-use Rattle.outside_io.specs.Faults.{Rose, one_more}
+use Rattle.outside_io.specs.Faults.{Rose}
+use Rattle.outside_io.specs.Calls.{one_more}
 
 pub Rose-one_more : (count : ℕ) → Rose count (one_more count)
 Rose-one_more count = grind arith

@@ -7,7 +7,7 @@ use Rattle.std.proofs.lemmas.List.{take_all, length-drop}
 use Rattle.std.specs.Io.KnownBytes.{Consumes, IsAtEnd, Keeps, Appends}
 use Rattle.std.proofs.KnownBytes.{Appends-trans}
 use Rattle.outside_io.specs.Reading.{ReadsFront}
-use Rattle.outside_io.specs.Sink.{AppendsPart}
+use Rattle.outside_io.specs.Calls.{AppendsPart}
 
 pub OnErr-any : {T E : Type 0} (r : Result T E) (P : Type 0) → P → OnErr r P
 OnErr-any (Ok x) P p = tt

@@ -1,7 +1,8 @@
 //! A count of faults, which stands still at the greatest `u64`.
 
 ghost use Rattle.std.specs.Prelude.{◌≡◌, ◌≤◌};
-ghost use Rattle.outside_io.specs.Faults.{Rose, one_more};
+ghost use Rattle.outside_io.specs.Faults.{Rose};
+ghost use Rattle.outside_io.specs.Calls.{one_more};
 
 /// Raises the count by one, unless it stands at its last value.
 pub(crate) fn raise(count: &mut u64)

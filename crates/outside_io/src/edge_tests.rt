@@ -2,7 +2,9 @@
 
 use crate::reading::read_up_to;
 use crate::writing::write_whole;
-use crate::{ShelfFault, SinkFailed};
+use crate::{ShelfFault, Sink, SinkFailed, StdSink};
+use std::cell::RefCell;
+use std::fmt::Display;
 use std::io::{self, ErrorKind, Read, Write};
 use std::test::Fail;
 
@@ -117,4 +119,53 @@ fn short_writes_are_gone_on_with(rt: HostRuntime) {
             && (faults == u64::MAX) == written.is_err();
         assert!(rt; right, "{failing}, {idle}");
     }
+}
+
+/// A standard output that keeps what it shows. It takes a hundred bytes at most at a time.
+#[derive(Drop)]
+struct KeptOutput {
+    shown: RefCell<Vec<u8>>,
+}
+
+impl Print for KeptOutput {
+    fn print<D: Display + Drop>(&self, _value: D) -> io::Result<()> {
+        Err(ErrorKind::Unsupported.into())
+    }
+
+    fn println<D: Display + Drop>(&self, _value: D) -> io::Result<()> {
+        Err(ErrorKind::Unsupported.into())
+    }
+
+    fn write_all(&self, _bytes: &[u8]) -> io::Result<()> {
+        Err(ErrorKind::Unsupported.into())
+    }
+
+    fn write_some(&self, bytes: &[u8]) -> io::Result<usize> {
+        let count = bytes.len().min(100);
+        let Ok(mut shown) = self.shown.try_borrow_mut() else {
+            return Err(ErrorKind::Other.into());
+        };
+        match shown.extend_from_slice(&bytes[..count]) {
+            Ok(()) => Ok(count),
+            Err(_) => Err(ErrorKind::OutOfMemory.into()),
+        }
+    }
+}
+
+#[test]
+fn the_standard_output_shows_long_pieces_whole(rt: HostRuntime) -> Result<(), Fail> {
+    let output = KeptOutput {
+        shown: RefCell::new(Vec::new(rt.alloc())),
+    };
+    let mut sink = StdSink::new(&output);
+    let mut expected = Vec::new(rt.alloc());
+    for (byte, length) in [(b'a', 256), (b'b', 257), (b'c', 300), (b'd', 70_000)] {
+        let mut piece = Vec::new(rt.alloc());
+        piece.resize(length, byte)?;
+        sink.put(&piece)?;
+        expected.extend_from_slice(&piece)?;
+    }
+    let shown = output.shown.try_borrow()?;
+    assert!(rt; shown.as_slice() == expected.as_slice());
+    Ok(())
 }

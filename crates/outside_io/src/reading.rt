@@ -3,7 +3,7 @@
 ghost use Rattle.std.specs.Prelude.{◌≡◌, ◌≤◌, ◌+◌, OnOk, OnErr, IfErr, IsErrOf};
 ghost use Rattle.std.specs.Io.{ReadsAtMost};
 ghost use Rattle.std.specs.Io.KnownBytes.{ReadConsumes};
-ghost use Rattle.outside_io.specs.Faults.{one_more};
+ghost use Rattle.outside_io.specs.Calls.{one_more};
 ghost use Rattle.outside_io.specs.Reading.{ReadsFront, GrowsUpTo};
 
 use crate::ShelfFault;

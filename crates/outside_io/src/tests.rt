@@ -4,7 +4,7 @@ ghost use Rattle.outside_io.specs.MemoryShelf.{listed_calls, was_added, SameFaul
 ghost use Rattle.outside_io.specs.declared.shelf.ShelfFault.TheVariants.{Memory};
 
 use crate::{DiskShelf, MemoryShelf, MemorySink, Shelf, ShelfFault, Sink, StdSink};
-use std::alloc::AllocError;
+use std::alloc::{AllocError, Global};
 use std::fs;
 use std::test::Fail;
 
@@ -61,6 +61,34 @@ fn reads_a_file_of_the_disk(rt: HostRuntime) -> Result<(), Fail> {
     ];
     fetch_all(&mut shelf, &fetches, &mut out)?;
     assert!(rt; out.as_slice() == b"a.a fil.a file.!!".as_slice());
+    Ok(())
+}
+
+/// So many bytes. None of the first 9,000 is that which stands 4,096 places before it.
+fn numbered(alloc: Global, count: u32) -> Result<Vec<u8>, AllocError> {
+    let mut bytes = Vec::new(alloc);
+    for place in 0..count {
+        bytes.push((place % 251) as u8)?;
+    }
+    Ok(bytes)
+}
+
+#[test]
+fn a_file_of_many_blocks_is_fetched_whole_or_up_to_the_limit(rt: HostRuntime) -> Result<(), Fail> {
+    let bytes = numbered(rt.alloc(), 9_000)?;
+    fs::write(&rt, "long.txt", bytes.as_slice())?;
+    let mut shelf = DiskShelf::new(&rt);
+    for (limit, length) in [
+        (8_997, 8_998),
+        (8_999, 9_000),
+        (9_000, 9_000),
+        (100_000, 9_000),
+    ] {
+        let mut out = Vec::new(rt.alloc());
+        shelf.fetch("long.txt", limit, &mut out)?;
+        let front = bytes.get(..length).ok_or("a front")?;
+        assert!(rt; out.as_slice() == front, "up to {limit}");
+    }
     Ok(())
 }
 

@@ -2,8 +2,7 @@
 
 ghost use Rattle.std.specs.Prelude.{◌≡◌, ◌<◌, ◌≤◌, OnOk, OnErr, IfOk, length};
 ghost use Rattle.std.specs.Io.KnownBytes.{Appends, WriteAppends};
-ghost use Rattle.outside_io.specs.Faults.{one_more};
-ghost use Rattle.outside_io.specs.Sink.{AppendsPart};
+ghost use Rattle.outside_io.specs.Calls.{one_more, AppendsPart};
 
 use crate::SinkFailed;
 use crate::count::raise;

@@ -16,7 +16,8 @@ use Rattle.game_rules.specs.declared.Place.{Place}
 use Rattle.game_rules.specs.declared.Place.TheVariants.{Tableau, Cell, Reserve, Waste, Foundation, Hole, Slot}
 use Rattle.game_rules.specs.Rules.{base_of, takes_back, takes_complete_runs, moves_groups, is_started, foundation_rank}
 use Rattle.game_rules.specs.Rules.{foundation_suit}
-use Rattle.game_rules.specs.Conflicts.{IsPlayable, builds_runs, has_no_complete_runs}
+use Rattle.game_rules.specs.Conflicts.{builds_runs, has_no_complete_runs}
+use Rattle.game_rules.specs.Playable.{IsPlayable}
 use Rattle.game_rules.specs.Board.{height_at, suit_at, top_of, top_part, below_top, foundation_card, foundation_cards}
 use Rattle.game_rules.specs.Board.{foundation_top}
 use Rattle.game_rules.specs.Taking.{taken, can_take}

@@ -8,9 +8,10 @@ use Rattle.card_links.specs.Chains.{size_at}
 use Rattle.game_rules.specs.declared.RuleParts.{RuleParts}
 use Rattle.game_rules.specs.declared.Face.{Face}
 use Rattle.game_rules.specs.declared.Face.TheVariants.{AllUp, TopUp}
-use Rattle.game_rules.specs.Conflicts.{HasLimits}
+use Rattle.game_rules.specs.Playable.{HasLimits}
 use Rattle.game_rules.specs.Board.{Board, Pile, empty_pile, pile_at, height_at}
-use Rattle.game_rules.specs.Belonging.{Belongs, card_count, lies_well}
+use Rattle.game_rules.specs.Belonging.{Belongs, lies_well}
+use Rattle.game_rules.specs.Counting.{card_count}
 use Rattle.game_rules.proofs.ListFacts.{list_all-get}
 use Rattle.game_rules.proofs.FewCards.{each_place-few}
 use Rattle.packed_state.specs.declared.Shape.{Shape}

@@ -9,7 +9,7 @@ use Rattle.card_piles.specs.declared.Card.{Card}
 use Rattle.game_rules.specs.declared.RuleParts.{RuleParts}
 use Rattle.game_rules.specs.Rules.{deals_to_waste, is_unlimited}
 use Rattle.game_rules.specs.Board.{Board, top_part, below_top}
-use Rattle.game_rules.specs.StockMoves.{IsNextByStock, queue}
+use Rattle.game_rules.specs.NextByStock.{IsNextByStock, queue}
 use Rattle.game_rules.proofs.StockMoves.{with_stock, Dealt, Redealt, next_cases}
 use Rattle.packed_state.specs.declared.stock.Border.{Border}
 use Rattle.packed_state.proofs.Seams.{below-top, length-top}

@@ -8,15 +8,17 @@ use Rattle.card_links.specs.Chains.{size_at}
 use Rattle.card_links.proofs.Each.{each}
 use Rattle.card_links.proofs.Cutting.{each_used, each_more, each_less, each_beyond}
 use Rattle.card_links.proofs.Sums.{two_below}
+use Rattle.game_rules.specs.declared.RuleParts.{RuleParts}
 use Rattle.game_rules.specs.Board.{top_part, below_top}
-use Rattle.game_rules.specs.StockMoves.{queue}
+use Rattle.game_rules.specs.NextByStock.{queue}
 use Rattle.game_rules.proofs.StockMoves.{with_stock}
 use Rattle.packed_state.specs.declared.stock.Border.{Border}
 use Rattle.packed_state.specs.declared.stock.StockUndo.{StockUndo}
-use Rattle.packed_state.specs.Packed.{Linked, IsLinked, cards_at, board_of}
+use Rattle.packed_state.specs.Packed.{Linked, IsLinked, cards_at, board_of, HoldsFoundations}
 use Rattle.packed_state.specs.Turning.{turned, with_redeals}
 use Rattle.packed_state.specs.StockRuns.{moved_to, cut_at, can_be_cut, before_run}
 use Rattle.packed_state.proofs.Boards.{same_boards}
+use Rattle.packed_state.proofs.Keeping.{others_hold}
 use Rattle.packed_state.proofs.Tops.{size_is}
 use Rattle.packed_state.proofs.ListsTurned.{with_links, waste_list, stock_list, turned_left, turned_there, turned_other}
 use Rattle.packed_state.proofs.ListsTurned.{piles_stay, cells_stay, reserve_stays, heights_stay, slots_stay}
@@ -177,6 +179,29 @@ module _ (l : Linked) (h : IsLinked l) where
     | inl below ↦ ap (λ m. m.stacked) (down_to l border.stock below)
     | inr above ↦ ap (λ m. m.stacked) (up_to l border.stock above)
   ]
+
+  -- a cut leaves the foundations
+  pub cut_holds : (rules : RuleParts) → HoldsFoundations rules l → (border : Border)
+      → border.stock ≤ size_at l.links 89 + size_at l.links 88 → HoldsFoundations rules (cut_at border l)
+  cut_holds rules holds border within =
+      let few = h.sized.small.foundations in
+      let left : ℕ = border.redeals_left in
+      elim (cases_lt border.stock (size_at l.links 89)) [
+        | inl below ↦
+            let d : ℕ = size_at l.links 89 - border.stock in
+            subst (λ (m : Linked). HoldsFoundations rules (with_redeals m left)) (sym (down_to l border.stock below))
+            (others_hold rules l (with_redeals (turned l 89 88 d) left) refl
+            (λ f lf. turned_other l h 89 88 d (stock_list l) (waste_list l) down (omega arith)
+            (90 + f) (omega arith) (λ e. absurd (omega arith)) (λ e. absurd (omega arith)))
+            holds)
+        | inr above ↦
+            let d : ℕ = border.stock - size_at l.links 89 in
+            subst (λ (m : Linked). HoldsFoundations rules (with_redeals m left)) (sym (up_to l border.stock above))
+            (others_hold rules l (with_redeals (turned l 88 89 d) left) refl
+            (λ f lf. turned_other l h 88 89 d (waste_list l) (stock_list l) up (omega arith)
+            (90 + f) (omega arith) (λ e. absurd (omega arith)) (λ e. absurd (omega arith)))
+            holds)
+      ]
 
   -- where a cut queue is cut, and how many cards it has
   pub cut_sizes : (border : Border) → border.stock ≤ size_at l.links 89 + size_at l.links 88

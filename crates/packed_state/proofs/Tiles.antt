@@ -9,9 +9,10 @@ use Rattle.std.proofs.lemmas.List.FromFn.{take-map-range_with_len, sum_by-map-ra
 use Rattle.card_piles.specs.declared.Card.{Card}
 use Rattle.game_rules.specs.declared.RuleParts.{RuleParts}
 use Rattle.game_rules.specs.Rules.{is_foundation_goal, is_sequence_goal}
-use Rattle.game_rules.specs.Conflicts.{HasLimits}
+use Rattle.game_rules.specs.Playable.{HasLimits}
 use Rattle.game_rules.specs.Board.{Board, Pile, empty_pile, height_at}
-use Rattle.game_rules.specs.Belonging.{Belongs, card_count}
+use Rattle.game_rules.specs.Belonging.{Belongs}
+use Rattle.game_rules.specs.Counting.{card_count}
 use Rattle.packed_state.specs.Packing.{shape_of, cards_due}
 use Rattle.packed_state.specs.Packed.{IsSmall}
 use Rattle.packed_state.proofs.Due.{due_pile, due_cell, due_entry, due_waste, due_stock, due_home, due_hole, due_slot}

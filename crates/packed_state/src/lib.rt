@@ -32,7 +32,11 @@
 //! link by link.
 //! Above: `go` is the move and `back` gives the whole earlier packed board; the readers are exact.
 //! `top`, `under` and `card` show the slots: `go` leaves each answer of `card`, and a carry changes
-//! `under` at the first card carried at most.
+//! `under` at the first card carried at most. A packed board does not know its rules, so three things
+//! have a premise: a carry from a foundation leaves `card` if the foundations hold the cards that the
+//! rules say, which `from_board` gives and `go` and `run_stock` keep; a carry from a stacked reserve
+//! says so much of `under` and `top` if the rules stack it; and `under` leads through all cards of a
+//! stacked reserve if each entry has one, as it has where the rules stack it too.
 //! Limits: 20 piles, 16 cells, 52 entries, 16 foundations, 208 slots and 208 cards.
 //! Refuses: `to_board` and `list_moves` for want of memory; nothing else takes memory.
 //! Not promised: time.

@@ -7,9 +7,10 @@ ghost use Rattle.std.specs.Prelude.{◌≡◌, ◌≤◌, ◌<◌, ◌+◌, ◌-
 ghost use Rattle.card_links.specs.Chains.{size_at};
 ghost use Rattle.game_rules.specs.Rules.{is_unlimited};
 ghost use Rattle.game_rules.specs.Belonging.{Belongs};
-ghost use Rattle.game_rules.specs.StockMoves.{HasStockMoves, after_stock_moves};
+ghost use Rattle.game_rules.specs.StockMoves.{after_stock_moves};
+ghost use Rattle.game_rules.specs.NextByStock.{HasStockMoves};
 ghost use Rattle.packed_state.specs.declared.stock.StockUndo.{StockUndo};
-ghost use Rattle.packed_state.specs.Packed.{board_of, is_stacked};
+ghost use Rattle.packed_state.specs.Packed.{board_of, is_stacked, HoldsFoundations};
 ghost use Rattle.packed_state.specs.StockRuns.{before_run, can_be_cut, cut_at};
 
 use crate::Packed;
@@ -115,6 +116,7 @@ impl Packed {
         ensures belongs { Belongs rules.now (board_of self.new) }
         ensures cards { self.new.cards ≡ self.old.cards }
         ensures used { self.new.links.used ≡ self.old.links.used }
+        ensures holds { HoldsFoundations rules.now self.old → HoldsFoundations rules.now self.new }
         ensures same_notes { (undo : StockUndo) → before_run undo self.new ≡ before_run undo self.old }
     {
         let _ = rules.parts();

@@ -9,7 +9,8 @@ use Rattle.deal_reader.specs.Position.{position_of}
 use Rattle.deal_reader.proofs.Reading.{position_of-take}
 use Rattle.line_printer.specs.LineFile.{line_of}
 use Rattle.line_printer.proofs.Reading.{line_of_front}
-use Rattle.outside_io.specs.Shelf.{File, HasBytes, Fetches}
+use Rattle.outside_io.specs.Shelf.{File, HasBytes}
+use Rattle.outside_io.specs.Calls.{Fetches}
 use Rattle.rules_json.specs.RulesFile.{rules_of}
 use Rattle.rules_json.proofs.Reading.{rules_of-take}
 use Rattle.solver_words.specs.declared.job.Job.{Job}

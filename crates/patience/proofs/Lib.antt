@@ -6,3 +6,4 @@ pub mod Complete
 pub mod Rulings
 pub mod Fetched
 pub mod PlainWords
+pub mod FileWords

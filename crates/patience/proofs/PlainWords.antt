@@ -62,7 +62,7 @@ same_deal : (rules deal bytes : List ℕ) → file_bytes (codes "deal") (two_fil
 same_deal rules deal bytes told = let same : Some deal ≡ Some bytes = told in cc
 
 -- what a true verdict says
-says-from_verdict : (rules : RuleParts) (start : Board) (limits : Limits) (v : Verdict) → IsVerdict rules start limits v
+pub says-from_verdict : (rules : RuleParts) (start : Board) (limits : Limits) (v : Verdict) → IsVerdict rules start limits v
     → Says rules start limits.nodes v
 says-from_verdict rules start limits (verdict.Winnable moves nodes narrow_nodes) is = line_wins rules start limits moves
     nodes narrow_nodes is

@@ -1,6 +1,5 @@
 -- The texts that are printed, each line ended by a newline.
-use Rattle.std.specs.Prelude.{ℕ, ◌+◌, ◌==◌, List, [], ◌∷◌, ◌++◌, length, position, codes, decimal}
-use Rattle.std.specs.Option.{option_map_or}
+use Rattle.std.specs.Prelude.{ℕ, List, [], ◌∷◌, ◌++◌, codes, decimal}
 use Rattle.patience.specs.declared.report.FileRole.{FileRole}
 use Rattle.patience.specs.declared.report.FileRole.TheVariants as role
 use Rattle.patience.specs.declared.status.Status.{Status}
@@ -17,10 +16,6 @@ status_number DealRefused = 13
 status_number LineRefused = 14
 status_number SinkFailed = 15
 status_number Memory = 16
-
--- the length of the first line of a text with its newline, and of the whole text where it has none
-abbrev pub first_line_length : List ℕ → ℕ
-first_line_length text = option_map_or (λ i. i + 1) (position (λ b. b == 10) text) (length text)
 
 -- a text as one line
 abbrev pub line : List ℕ → List ℕ

@@ -1,6 +1,6 @@
 //! The files of a job: fetched by the words' names, and read.
 ghost use Rattle.std.specs.Prelude.{ℕ, ◌≡◌, ◌≢◌, ◌≤◌, IfOk, IfErr, IsTrue, List, [], Ok, slice_index_or};
-ghost use Rattle.outside_io.specs.Shelf.{Fetches};
+ghost use Rattle.outside_io.specs.Calls.{Fetches};
 ghost use Rattle.game_rules.specs.Belonging.{Belongs};
 ghost use Rattle.deal_reader.specs.Position.{position_of};
 ghost use Rattle.line_printer.specs.LineFile.{line_of};

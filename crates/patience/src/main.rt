@@ -9,12 +9,18 @@
 
 mod asked;
 #[cfg(test)]
+mod ending_tests;
+#[cfg(test)]
 mod failing_tests;
+#[cfg(test)]
+mod file_words_tests;
 mod files;
 #[cfg(test)]
 mod hostile_tests;
 mod jobs;
 mod lines;
+#[cfg(test)]
+mod memo_tests;
 #[cfg(test)]
 mod plain_words_tests;
 mod report;

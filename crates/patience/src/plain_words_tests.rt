@@ -18,7 +18,7 @@ struct Printed {
 }
 
 /// The words of a job that solves the file `deal` by the file `rules`.
-fn solve_words(alloc: Global) -> Result<Vec<String>, AllocError>
+pub fn solve_words(alloc: Global) -> Result<Vec<String>, AllocError>
     ensures { IfOk result (λ words. texts words.items ≡ codes "solve" ∷ codes "rules" ∷ codes "deal" ∷ []) }
 {
     let mut words = Vec::new(alloc);

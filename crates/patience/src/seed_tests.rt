@@ -50,3 +50,20 @@ fn a_printed_deal_is_read_back_and_solved_alike(rt: HostRuntime) -> Result<(), F
     }
     Ok(())
 }
+
+#[test]
+fn seed_1_of_freecell_is_undecided_or_its_win_is_replayed(rt: HostRuntime) -> Result<(), Fail> {
+    let alloc = rt.alloc();
+    let rules = br#"{"tableau":{"piles":8,"build":"red-black"},"cells":{"count":4}}"#;
+    let mut shelf = shelf_of(alloc, rules, b"")?;
+    let deal = print(alloc, &mut shelf, "deal rules --seed 1")?;
+    let verdict = print(alloc, &mut shelf, "solve rules --seed 1 --nodes 1000")?;
+    assert_eq!(rt; verdict.status, Status::Done);
+    if verdict.text.as_slice() != b"undecided\nnodes 1000\nnarrow 0\n".as_slice() {
+        let mut shelf = shelf_of(alloc, rules, &deal.text)?;
+        shelf.add("line", &verdict.text)?;
+        let replayed = print(alloc, &mut shelf, "replay rules deal line")?;
+        assert!(rt; replayed.text.as_slice().starts_with(b"wins\nmoves "));
+    }
+    Ok(())
+}

@@ -109,6 +109,51 @@ t0 c0
 t0 f0
 c0 f0
 
+a two behind a gap in the first column
+{"sequences":{},"max rank":2}
+{"rows":[[null,"2C"],["2D"],["2H"],["2S"]]}
+solve rules deal
+Done
+winnable
+nodes 1
+narrow 0
+moves 1
+s1 s0
+
+a stock that deals to the hole
+{"max rank":2,"tableau":{"piles":1,"spaces":"none"},"hole":{},"stock":{"size":1,"to":"hole"}}
+{"tableau":[["AC"]],"stock":["2C"],"hole":["2S","2D","AD","2H","AH","AS"]}
+solve rules deal
+Done
+winnable
+nodes 2
+narrow 0
+moves 2
+deal
+t0 h
+
+a two that is dealt on the ace, or on no pile once the ace is home
+{"max rank":2,"tableau":{"piles":1},"stock":{"size":1,"to":"tableau"}}
+{"tableau":[["AC"]],"stock":["2C"],"foundations":[0,2,2,2]}
+solve rules deal
+Done
+unwinnable
+nodes 3
+narrow 0
+
+an ace that is dealt on the two
+{"max rank":2,"tableau":{"piles":1},"stock":{"size":1,"to":"tableau"}}
+{"tableau":[["2C"]],"stock":["AC"],"foundations":[0,2,2,2]}
+solve rules deal
+Done
+winnable
+nodes 3
+narrow 0
+moves 3
+deal
+t0 f0
+t0 f0
+
 four piles of aces and twos round an ace in the hole
 {"max rank":2,"tableau":{"piles":4,"spaces":"none"},"hole":{"start":"AS"}}
 {"tableau":[["AC","2C"],["AD","2D"],["AH","2H"],["2S"]],"hole":["AS"]}

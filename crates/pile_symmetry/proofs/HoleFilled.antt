@@ -18,19 +18,21 @@ use Rattle.game_rules.specs.declared.BoardParts.{BoardParts}
 use Rattle.game_rules.specs.declared.Goal.{Goal}
 use Rattle.game_rules.specs.declared.Goal.TheVariants.{Foundations, Hole, Sequences}
 use Rattle.game_rules.specs.Rules.{is_foundation_goal, is_hole_goal, is_sequence_goal}
-use Rattle.game_rules.specs.Conflicts.{HasLimits}
+use Rattle.game_rules.specs.Playable.{HasLimits}
 use Rattle.game_rules.specs.Board.{Board, Pile, top_of, below_top}
 use Rattle.game_rules.specs.Play.{is_empty}
 use Rattle.game_rules.specs.Belonging.{Belongs, copies_of, copies_in, copies_in_piles, copies_at_home}
 use Rattle.game_rules.specs.Belonging.{copies_on, copies_due}
-use Rattle.game_rules.specs.Position.{HasRanks, parts_of, card_numbered, deck_size}
+use Rattle.game_rules.specs.Position.{parts_of, card_numbered, deck_size}
+use Rattle.game_rules.specs.Ranked.{HasRanks}
 use Rattle.game_rules.proofs.ListFacts.{drop_last}
 use Rattle.game_rules.proofs.PositionFacts.{deck_size-is}
 use Rattle.game_rules.proofs.Copies.{copies-append}
 use Rattle.same_boards.specs.Same.{Same}
 use Rattle.same_boards.specs.Keys.{sorted_bytes, card_byte, card_bytes, entry_byte, hole_bytes}
 use Rattle.same_boards.proofs.Sorting.{sorted-permutation}
-use Rattle.same_boards.proofs.KeyParts.{card_of_byte, entry-back, card-back, permutation-from_bytes, IsGood}
+use Rattle.same_boards.specs.Bytes.{card_of_byte}
+use Rattle.same_boards.proofs.KeyParts.{entry-back, card-back, permutation-from_bytes, IsGood}
 use Rattle.same_boards.proofs.KeysSame.{top-good, empty-nil}
 use Rattle.same_boards.proofs.SameAfter.{HasPlaces}
 use Rattle.same_boards.proofs.SameBelongs.{copies-from_same}

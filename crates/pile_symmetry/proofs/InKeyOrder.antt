@@ -21,13 +21,15 @@ use Rattle.game_rules.specs.Rules.{is_foundation_goal, is_sequence_goal}
 use Rattle.game_rules.specs.Board.{Board, Pile, top_of, height_at}
 use Rattle.game_rules.specs.Winning.{rows_of}
 use Rattle.game_rules.specs.Belonging.{Belongs, foundation_count}
-use Rattle.game_rules.specs.Position.{HasRanks, filled}
+use Rattle.game_rules.specs.Position.{filled}
+use Rattle.game_rules.specs.Ranked.{HasRanks}
 use Rattle.game_rules.proofs.PositionFacts.{length-filled}
 use Rattle.same_boards.specs.Same.{Same, keeps_pile_order, heights_of_suit}
 use Rattle.same_boards.specs.Keys.{sorted_bytes, sorted_lists, card_byte, card_bytes, cards_in, height_bytes}
 use Rattle.same_boards.specs.Keys.{pile_bytes, row_bytes}
 use Rattle.same_boards.proofs.Sorting.{sorted-permutation}
-use Rattle.same_boards.proofs.KeyParts.{card_of_byte, entry_of_byte, pile_of_bytes, cards-back, row-back, map-back}
+use Rattle.same_boards.specs.Bytes.{card_of_byte, entry_of_byte}
+use Rattle.same_boards.proofs.KeyParts.{pile_of_bytes, cards-back, row-back, map-back}
 use Rattle.same_boards.proofs.KeyParts.{card-back, pile-back, IsGood, IsGoodEntry, IsGoodPile}
 use Rattle.same_boards.proofs.KeysSame.{some_card, entries-permutation, filled as all-filled, good_cards_in, good_rows}
 use Rattle.same_boards.proofs.KeysSame.{IsGoodRow, all_heights, suit_size, sorted_rows}

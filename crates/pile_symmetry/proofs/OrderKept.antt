@@ -15,12 +15,14 @@ use Rattle.game_rules.specs.Rules.{is_foundation_goal, is_sequence_goal}
 use Rattle.game_rules.specs.Board.{Board, Pile, below_top}
 use Rattle.game_rules.specs.Winning.{rows_of}
 use Rattle.game_rules.specs.Belonging.{Belongs}
-use Rattle.game_rules.specs.Position.{HasRanks, filled}
+use Rattle.game_rules.specs.Position.{filled}
+use Rattle.game_rules.specs.Ranked.{HasRanks}
 use Rattle.same_boards.specs.Same.{keeps_pile_order, heights_of_suit}
 use Rattle.same_boards.specs.Keys.{sorted_bytes, sorted_lists, card_byte, card_bytes, cards_in, entry_byte, cell_bytes}
 use Rattle.same_boards.specs.Keys.{pile_bytes, row_bytes}
 use Rattle.same_boards.proofs.Sorting.{sorted-permutation}
-use Rattle.same_boards.proofs.KeyParts.{card_of_byte, entry_of_byte, pile_of_bytes, map-back, card-back, pile-back}
+use Rattle.same_boards.specs.Bytes.{card_of_byte, entry_of_byte}
+use Rattle.same_boards.proofs.KeyParts.{pile_of_bytes, map-back, card-back, pile-back}
 use Rattle.same_boards.proofs.KeyParts.{row-back, IsGood, IsGoodEntry, IsGoodPile}
 use Rattle.same_boards.proofs.KeysSame.{some_card, filled as all-filled, good_cards_in, good_rows, IsGoodRow}
 use Rattle.same_boards.proofs.KeysSame.{all_heights, sorted_rows, sorted_rows-long, sorted_rows-size}

@@ -11,15 +11,17 @@ use Rattle.card_piles.specs.declared.Card.{Card}
 use Rattle.game_rules.specs.declared.RuleParts.{RuleParts}
 use Rattle.game_rules.specs.declared.BoardParts.{BoardParts}
 use Rattle.game_rules.specs.Rules.{is_foundation_goal, is_hole_goal, is_sequence_goal}
-use Rattle.game_rules.specs.Conflicts.{IsPlayable}
+use Rattle.game_rules.specs.Playable.{IsPlayable}
 use Rattle.game_rules.specs.Board.{Board, Pile, empty_pile}
 use Rattle.game_rules.specs.Belonging.{Belongs, foundation_count}
-use Rattle.game_rules.specs.Position.{HasRanks, filled, parts_of}
+use Rattle.game_rules.specs.Position.{filled, parts_of}
+use Rattle.game_rules.specs.Ranked.{HasRanks}
 use Rattle.game_rules.proofs.ListFacts.{map-range-same}
 use Rattle.same_boards.specs.Same.{keeps_pile_order}
 use Rattle.same_boards.specs.Keys.{card_bytes, counted, height_bytes, hole_bytes, cell_bytes, reserve_bytes}
 use Rattle.same_boards.specs.Keys.{piles_bytes, rows_bytes, key_bytes}
-use Rattle.same_boards.proofs.KeyParts.{card_of_byte, entry_of_byte, pile_of_bytes, cards-back, IsPileBytes}
+use Rattle.same_boards.specs.Bytes.{card_of_byte, entry_of_byte}
+use Rattle.same_boards.proofs.KeyParts.{pile_of_bytes, cards-back, IsPileBytes}
 use Rattle.same_boards.proofs.KeysSame.{pieces-are, pieces-size, all_heights, all_heights-size}
 use Rattle.same_boards.proofs.KeySize.{rows_alone}
 use Rattle.pile_symmetry.specs.Said.{Said}

@@ -7,10 +7,11 @@ use Rattle.game_rules.specs.declared.RuleParts.{RuleParts}
 use Rattle.game_rules.specs.declared.BoardParts.{BoardParts}
 use Rattle.game_rules.specs.declared.BoardFault.{BoardFault}
 use Rattle.game_rules.specs.declared.BoardFault.TheVariants.{Memory}
-use Rattle.game_rules.specs.Conflicts.{IsPlayable, HasLimits}
+use Rattle.game_rules.specs.Playable.{IsPlayable, HasLimits}
 use Rattle.game_rules.specs.Board.{Board}
 use Rattle.game_rules.specs.Belonging.{Belongs}
-use Rattle.game_rules.specs.Position.{HasRanks, parts_of, board_of_parts, fault_of}
+use Rattle.game_rules.specs.Position.{parts_of, board_of_parts, fault_of}
+use Rattle.game_rules.specs.Ranked.{HasRanks}
 use Rattle.game_rules.proofs.Limits.{limits_of}
 use Rattle.game_rules.proofs.Ranks.{ranks-belong}
 use Rattle.game_rules.proofs.BelongingExactly.{board-of_its_parts, parts-have_no_fault}

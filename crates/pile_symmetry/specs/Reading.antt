@@ -11,7 +11,7 @@ use Rattle.game_rules.specs.Board.{Pile, empty_pile}
 use Rattle.game_rules.specs.Belonging.{foundation_count, copies_of, copies_in, copies_due}
 use Rattle.game_rules.specs.Position.{filled, row_count, card_numbered, deck_size}
 use Rattle.pile_symmetry.specs.Said.{Said}
-use Rattle.same_boards.proofs.KeyParts.{card_of_byte, entry_of_byte}
+use Rattle.same_boards.specs.Bytes.{card_of_byte, entry_of_byte}
 
 -- the bytes of a part that begins with their number
 abbrev pub counted_part : List ℕ → List ℕ

@@ -3,7 +3,7 @@ ghost use Rattle.std.specs.Prelude.{◌≡◌, ℕ, ◌≤◌, map, IfOk, None};
 ghost use Rattle.std.specs.Option.{option_to_list};
 ghost use Rattle.std.specs.List.{range_with_len};
 ghost use Rattle.game_rules.specs.Position.{filled};
-ghost use Rattle.same_boards.proofs.KeyParts.{card_of_byte, entry_of_byte};
+ghost use Rattle.same_boards.specs.Bytes.{card_of_byte, entry_of_byte};
 ghost use Rattle.pile_symmetry.specs.Reading.{card_entry, piles_in, reserve_in, heights_in, rows_in};
 ghost use Rattle.pile_symmetry.specs.Reading.{top_in, parts_said};
 

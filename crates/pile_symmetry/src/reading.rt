@@ -2,7 +2,7 @@
 ghost use Rattle.std.specs.Prelude.{◌≡◌, take, drop, slice_index_or, map};
 ghost use Rattle.game_rules.specs.Belonging.{foundation_count};
 ghost use Rattle.game_rules.specs.Position.{card_numbered};
-ghost use Rattle.same_boards.proofs.KeyParts.{card_of_byte, entry_of_byte};
+ghost use Rattle.same_boards.specs.Bytes.{card_of_byte, entry_of_byte};
 ghost use Rattle.pile_symmetry.specs.Reading.{counted_part, after_counted, pile_in, after_pile, hole_size, said};
 
 use crate::Said;

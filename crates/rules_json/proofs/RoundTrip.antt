@@ -10,8 +10,8 @@ use Rattle.game_rules.specs.declared.Goal.{Goal}
 use Rattle.game_rules.specs.declared.Goal.TheVariants.{Foundations, Hole, Sequences}
 use Rattle.game_rules.specs.declared.Redeals.{Redeals}
 use Rattle.game_rules.specs.declared.Redeals.TheVariants.{Times, Unlimited}
-use Rattle.game_rules.specs.Conflicts.{IsPlayable}
-use Rattle.rules_json.specs.Words.{HasNamedStart}
+use Rattle.game_rules.specs.Playable.{IsPlayable}
+use Rattle.rules_json.specs.NamedStart.{HasNamedStart}
 use Rattle.rules_json.specs.Spelling.{redeals_tree, goal_key, goal_tree, common_parts, rules_tree, rules_text}
 use Rattle.rules_json.specs.RulesFile.{rules_of}
 use Rattle.rules_json.proofs.Reading.{rules_of-object}

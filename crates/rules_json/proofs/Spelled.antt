@@ -11,9 +11,11 @@ use Rattle.game_rules.specs.declared.HoleStart.{HoleStart}
 use Rattle.game_rules.specs.declared.HoleStart.TheVariants.{Dealt}
 use Rattle.game_rules.specs.declared.Redeals.{Redeals}
 use Rattle.game_rules.specs.declared.Redeals.TheVariants.{Times, Unlimited}
-use Rattle.game_rules.specs.Conflicts.{IsPlayable, are_redeals_within, is_base_within, first_conflict}
+use Rattle.game_rules.specs.Conflicts.{are_redeals_within, is_base_within, first_conflict}
+use Rattle.game_rules.specs.Playable.{IsPlayable}
 use Rattle.game_rules.proofs.Limits.{numbers_of, both}
-use Rattle.rules_json.specs.Words.{start_named, start_word, HasNamedStart}
+use Rattle.rules_json.specs.Words.{start_named, start_word}
+use Rattle.rules_json.specs.NamedStart.{HasNamedStart}
 use Rattle.rules_json.specs.Values.{redeals}
 use Rattle.rules_json.specs.Parts.{top_of, tableau_of, foundations_of, hole_of, sequences_of, cells_of}
 use Rattle.rules_json.specs.Parts.{reserve_of, stock_of}

@@ -1,5 +1,6 @@
 pub mod Faults
 pub mod Words
+pub mod NamedStart
 pub mod Values
 pub mod Parts
 pub mod RulesFile

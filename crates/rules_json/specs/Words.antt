@@ -1,5 +1,5 @@
 -- The words of a rules file: the value that each names, and the one word of each value.
-use Rattle.std.specs.Prelude.{◌≡◌, ℕ, List, Bool, Option, Some, None, option_map, codes, if◌then◌else◌}
+use Rattle.std.specs.Prelude.{ℕ, List, Option, Some, None, option_map, codes, if◌then◌else◌}
 use Rattle.std.specs.Str.{bytes_eq}
 use Rattle.card_piles.specs.declared.Build.{Build}
 use Rattle.card_piles.specs.declared.Build.TheVariants.{NoBuild, AnySuit, RedBlack, SameSuit}
@@ -14,8 +14,6 @@ use Rattle.game_rules.specs.declared.Spaces.{Spaces}
 use Rattle.game_rules.specs.declared.Spaces.TheVariants.{Any, King, NoFill}
 use Rattle.game_rules.specs.declared.Target.{Target}
 use Rattle.game_rules.specs.declared.Target.TheVariants.{ToWaste, ToTableau, ToHole}
-use Rattle.game_rules.specs.declared.Goal.{Goal}
-use Rattle.game_rules.specs.declared.Goal.TheVariants.{Foundations, Hole, Sequences}
 use Rattle.game_rules.specs.declared.HoleStart.{HoleStart}
 use Rattle.game_rules.specs.declared.HoleStart.TheVariants.{Dealt, Named}
 
@@ -101,9 +99,3 @@ start_named text = if bytes_eq text (codes "deal") then Some Dealt else option_m
 abbrev pub start_word : HoleStart → List ℕ
 start_word Dealt = codes "deal"
 start_word (Named card) = text_of_card card
-
--- the word of the hole's start names it: its card has a rank
-abbrev pub HasNamedStart : Goal → Type 0
-HasNamedStart (Foundations base started take_back complete_runs) = Unit {0}
-HasNamedStart (Hole wrap start) = start_named (start_word start) ≡ Some start
-HasNamedStart Sequences = Unit {0}

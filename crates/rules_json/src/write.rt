@@ -8,7 +8,8 @@ ghost use Rattle.rules_json.specs.Spelling.{cells_tree as cells_tree_of, reserve
 ghost use Rattle.rules_json.specs.Spelling.{redeals_tree as redeals_tree_of, stock_tree as stock_tree_of};
 ghost use Rattle.rules_json.specs.Spelling.{goal_key as goal_key_of, goal_tree as goal_tree_of};
 ghost use Rattle.rules_json.specs.Spelling.{common_parts as common_parts_of};
-ghost use Rattle.rules_json.specs.Words.{start_named, start_word, HasNamedStart};
+ghost use Rattle.rules_json.specs.Words.{start_named, start_word};
+ghost use Rattle.rules_json.specs.NamedStart.{HasNamedStart};
 
 use crate::words::{build_word, face_word, groups_word, layout_word, spaces_word, target_word};
 use card_piles::{NoMemory, text_of};

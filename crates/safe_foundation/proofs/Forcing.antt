@@ -15,12 +15,12 @@ use Rattle.game_rules.specs.declared.Move.TheVariants.{Carry, Deal, Redeal}
 use Rattle.game_rules.specs.declared.Place.{Place}
 use Rattle.game_rules.specs.declared.Place.TheVariants.{Tableau, Cell, Reserve, Waste, Foundation, Hole, Slot}
 use Rattle.game_rules.specs.Rules.{takes_complete_runs, foundation_suit, foundation_rank}
-use Rattle.game_rules.specs.Conflicts.{HasLimits}
+use Rattle.game_rules.specs.Playable.{HasLimits}
 use Rattle.game_rules.specs.Board.{Board, height_at, has_place, suit_at, foundation_card}
 use Rattle.game_rules.specs.Taking.{can_take, taken}
 use Rattle.game_rules.specs.Putting.{can_put, is_next_on, is_complete_run}
 use Rattle.game_rules.specs.Play.{same_place, is_legal_move}
-use Rattle.game_rules.specs.Order.{Before, is_place_before, source_rank}
+use Rattle.game_rules.specs.Before.{Before, is_place_before, source_rank}
 use Rattle.game_rules.specs.Belonging.{holds, same_card}
 use Rattle.game_rules.proofs.Limits.{both}
 use Rattle.game_rules.proofs.Rooms.{suit-at_place, card-by_parts}

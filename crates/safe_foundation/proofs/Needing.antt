@@ -7,7 +7,7 @@ use Rattle.card_piles.specs.declared.Card.{Card}
 use Rattle.game_rules.specs.declared.RuleParts.{RuleParts}
 use Rattle.game_rules.specs.Rules.{foundation_rank}
 use Rattle.game_rules.specs.Board.{Board, foundation_card}
-use Rattle.game_rules.specs.Conflicts.{IsPlayable}
+use Rattle.game_rules.specs.Playable.{IsPlayable}
 use Rattle.game_rules.specs.Belonging.{Belongs}
 use Rattle.safe_moves.specs.Safe.{rules_allow, is_not_needed}
 use Rattle.safe_moves.specs.Need.{home_place, upper_rank, is_no_bar, are_no_bar}

@@ -10,7 +10,7 @@ use Rattle.game_rules.specs.declared.Place.{Place}
 use Rattle.game_rules.specs.declared.Place.TheVariants.{Tableau, Cell, Reserve, Waste, Foundation, Hole, Slot}
 use Rattle.game_rules.specs.Board.{Board, has_place}
 use Rattle.game_rules.specs.Belonging.{Belongs}
-use Rattle.game_rules.specs.Order.{is_place_before, source_rank}
+use Rattle.game_rules.specs.Before.{is_place_before, source_rank}
 use Rattle.safe_moves.specs.Safe.{gives_safely}
 use Rattle.safe_foundation.specs.Giving.{gives, IsLeast, IsFirstPlace}
 

@@ -7,7 +7,7 @@ use Rattle.game_rules.specs.declared.Place.{Place}
 use Rattle.game_rules.specs.Board.{Board, foundation_card, has_place, height_at}
 use Rattle.game_rules.specs.Taking.{can_take, taken}
 use Rattle.game_rules.specs.Belonging.{holds}
-use Rattle.game_rules.specs.Order.{is_place_before, source_rank}
+use Rattle.game_rules.specs.Before.{is_place_before, source_rank}
 use Rattle.safe_moves.specs.Safe.{gives_safely, is_not_needed}
 
 -- the card that a foundation of this height takes next, unless it is full

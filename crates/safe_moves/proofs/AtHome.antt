@@ -16,7 +16,7 @@ use Rattle.game_rules.specs.declared.RuleParts.{RuleParts}
 use Rattle.game_rules.specs.declared.Place.{Place}
 use Rattle.game_rules.specs.declared.Place.TheVariants.{Tableau, Cell, Reserve, Waste, Foundation, Hole, Slot}
 use Rattle.game_rules.specs.Rules.{foundation_rank}
-use Rattle.game_rules.specs.Conflicts.{HasLimits}
+use Rattle.game_rules.specs.Playable.{HasLimits}
 use Rattle.game_rules.specs.Board.{Board, height_at, has_place, suit_at, foundation_card, foundation_cards}
 use Rattle.game_rules.specs.Taking.{without, can_take, taken}
 use Rattle.game_rules.specs.Belonging.{same_card, copies_of, copies_at_home, copies_on}

@@ -6,7 +6,8 @@ use Rattle.std.proofs.lemmas.Bool.{cases_Bool, cond-true, cond-false}
 use Rattle.game_rules.specs.declared.RuleParts.{RuleParts}
 use Rattle.game_rules.specs.declared.Move.{Move}
 use Rattle.game_rules.specs.Board.{Board}
-use Rattle.game_rules.specs.Order.{Before, legal_moves}
+use Rattle.game_rules.specs.Order.{legal_moves}
+use Rattle.game_rules.specs.Before.{Before}
 use Rattle.game_rules.proofs.MovesListed.{Contains-there, Contains-cases, legal_moves-exact}
 use Rattle.game_rules.proofs.MovesInOrder.{legal_moves-in_order}
 use Rattle.safe_moves.specs.Safe.{is_safe, first_safe}

@@ -14,7 +14,8 @@ use Rattle.game_rules.specs.declared.RuleParts.{RuleParts}
 use Rattle.game_rules.specs.declared.Goal.{Goal}
 use Rattle.game_rules.specs.declared.Goal.TheVariants.{Foundations, Hole as HoleGoal, Sequences}
 use Rattle.game_rules.specs.Rules.{is_foundation_goal, base_of, foundation_suit, foundation_rank}
-use Rattle.game_rules.specs.Conflicts.{IsPlayable, has_base_above, is_base_within}
+use Rattle.game_rules.specs.Conflicts.{has_base_above, is_base_within}
+use Rattle.game_rules.specs.Playable.{IsPlayable}
 use Rattle.game_rules.specs.Board.{Board, height_at, suit_at, foundation_card, foundation_cards}
 use Rattle.game_rules.specs.Belonging.{Belongs}
 use Rattle.safe_moves.specs.Safe.{is_home, rules_allow}

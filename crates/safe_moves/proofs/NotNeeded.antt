@@ -12,7 +12,7 @@ use Rattle.card_piles.specs.declared.Suit.TheVariants.{Clubs, Diamonds, Hearts, 
 use Rattle.card_piles.specs.Cards.{place_of}
 use Rattle.card_piles.specs.Builds.{builds_on, ranks_fit, suits_fit}
 use Rattle.game_rules.specs.declared.RuleParts.{RuleParts}
-use Rattle.game_rules.specs.Conflicts.{IsPlayable}
+use Rattle.game_rules.specs.Playable.{IsPlayable}
 use Rattle.game_rules.specs.Board.{Board, suit_at, height_at}
 use Rattle.game_rules.specs.Belonging.{Belongs}
 use Rattle.safe_moves.specs.Safe.{is_home, deck_of, is_not_needed, rules_allow}

@@ -20,7 +20,7 @@ use Rattle.game_rules.specs.declared.Move.{Move}
 use Rattle.game_rules.specs.declared.Move.TheVariants.{Carry, Deal, Redeal}
 use Rattle.game_rules.specs.Rules.{is_foundation_goal, takes_complete_runs, deals_to_tableau}
 use Rattle.game_rules.specs.Rules.{foundation_suit, foundation_rank}
-use Rattle.game_rules.specs.Conflicts.{IsPlayable, HasLimits}
+use Rattle.game_rules.specs.Playable.{IsPlayable, HasLimits}
 use Rattle.game_rules.specs.Board.{Board, pile_at, entry_at, height_at, has_place, top_of, top_part}
 use Rattle.game_rules.specs.Taking.{without, single_at, can_take, taken}
 use Rattle.game_rules.specs.Putting.{can_put, is_next_on, is_complete_run, goes_on_pile}

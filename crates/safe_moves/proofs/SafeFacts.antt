@@ -21,7 +21,7 @@ use Rattle.game_rules.specs.declared.Place.TheVariants.{Tableau, Cell, Reserve, 
 use Rattle.game_rules.specs.declared.Move.TheVariants.{Carry}
 use Rattle.game_rules.specs.Rules.{is_foundation_goal, is_hole_goal, is_sequence_goal, takes_back}
 use Rattle.game_rules.specs.Rules.{takes_complete_runs, deals_to_tableau}
-use Rattle.game_rules.specs.Conflicts.{HasLimits}
+use Rattle.game_rules.specs.Playable.{HasLimits}
 use Rattle.game_rules.specs.Board.{Board, Pile, pile_at, entry_at, height_at, has_place, top_of, foundation_top}
 use Rattle.game_rules.specs.Taking.{without, single_at, can_take, taken}
 use Rattle.game_rules.specs.Putting.{with_cards, can_put, is_next_on}

@@ -6,9 +6,10 @@ use Rattle.std.specs.List.{sum_by, count_by}
 use Rattle.std.proofs.lemmas.List.Sums.{sum_by-cons}
 use Rattle.card_piles.specs.declared.Card.{Card}
 use Rattle.game_rules.specs.declared.RuleParts.{RuleParts}
-use Rattle.game_rules.specs.Conflicts.{HasLimits}
+use Rattle.game_rules.specs.Playable.{HasLimits}
 use Rattle.game_rules.specs.Board.{Board, Pile}
-use Rattle.game_rules.specs.Belonging.{Belongs, card_count}
+use Rattle.game_rules.specs.Belonging.{Belongs}
+use Rattle.game_rules.specs.Counting.{card_count}
 use Rattle.same_boards.specs.Keys.{cards_in}
 use Rattle.same_boards.proofs.BoardCards.{cards_of_piles, cards_of_board}
 use Rattle.game_rules.proofs.FewCards.{few_cards-by_suits}

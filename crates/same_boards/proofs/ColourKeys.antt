@@ -17,18 +17,19 @@ use Rattle.game_rules.specs.declared.Face.{Face}
 use Rattle.game_rules.specs.declared.Face.TheVariants.{AllUp, TopUp}
 use Rattle.game_rules.specs.declared.RuleParts.{RuleParts}
 use Rattle.game_rules.specs.Rules.{is_foundation_goal, is_hole_goal}
-use Rattle.game_rules.specs.Conflicts.{IsPlayable, HasLimits}
+use Rattle.game_rules.specs.Playable.{IsPlayable, HasLimits}
 use Rattle.game_rules.specs.Board.{Board, Pile, height_at}
 use Rattle.game_rules.specs.Play.{is_empty}
 use Rattle.game_rules.specs.Belonging.{Belongs, lies_well}
 use Rattle.same_boards.specs.Same.{heights_of_suit}
 use Rattle.same_boards.specs.Keys.{sorted_bytes, cards_in, card_byte}
 use Rattle.same_boards.specs.Colours.{SameColours, coloured, coloured_entry, coloured_pile, coloured_board}
-use Rattle.same_boards.specs.Colours.{black_heights, red_heights, colour_height_bytes, colour_key_bytes}
+use Rattle.same_boards.specs.Colours.{black_heights, red_heights}
+use Rattle.same_boards.specs.ColourKeys.{colour_height_bytes, colour_key_bytes}
 use Rattle.game_rules.proofs.Limits.{limits_of}
 use Rattle.same_boards.proofs.Sorting.{numbers_apart, sorted-same, permutation-from_sorted}
 use Rattle.same_boards.proofs.SameKeys.{key-from_cards}
-use Rattle.game_rules.specs.Position.{HasRanks}
+use Rattle.game_rules.specs.Ranked.{HasRanks}
 use Rattle.game_rules.proofs.Ranks.{ranks-belong}
 use Rattle.same_boards.proofs.BoardCards.{cards_of_piles}
 use Rattle.same_boards.proofs.KeyParts.{IsGood, IsGoodEntry, IsGoodPile, same_split}

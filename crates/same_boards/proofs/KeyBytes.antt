@@ -22,7 +22,8 @@ use Rattle.game_rules.specs.declared.Face.TheVariants.{AllUp, TopUp}
 use Rattle.game_rules.specs.declared.Redeals.{Redeals}
 use Rattle.game_rules.specs.declared.Redeals.TheVariants.{Times, Unlimited}
 use Rattle.game_rules.specs.Rules.{is_foundation_goal, is_hole_goal, is_sequence_goal}
-use Rattle.game_rules.specs.Conflicts.{IsPlayable, HasLimits, are_redeals_within}
+use Rattle.game_rules.specs.Conflicts.{are_redeals_within}
+use Rattle.game_rules.specs.Playable.{IsPlayable, HasLimits}
 use Rattle.game_rules.specs.Board.{Board, Pile, top_of, height_at}
 use Rattle.game_rules.specs.Winning.{rows_of}
 use Rattle.game_rules.specs.Belonging.{Belongs, lies_well, most_redeals}
@@ -33,7 +34,7 @@ use Rattle.same_boards.specs.Keys.{piles_bytes, row_bytes, rows_bytes, key_bytes
 use Rattle.game_rules.proofs.Limits.{limits_of, numbers_within}
 use Rattle.same_boards.proofs.Renaming.{either}
 use Rattle.same_boards.proofs.Sorting.{sorted-permutation}
-use Rattle.game_rules.specs.Position.{HasRanks}
+use Rattle.game_rules.specs.Ranked.{HasRanks}
 use Rattle.game_rules.proofs.Ranks.{ranks-belong}
 use Rattle.same_boards.proofs.KeyParts.{IsGood, IsGoodEntry, IsGoodPile}
 use Rattle.same_boards.proofs.CardCount.{cards-few_for_decks}

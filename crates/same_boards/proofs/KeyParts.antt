@@ -12,10 +12,12 @@ use Rattle.std.proofs.lemmas.Bool.{ne_eqb}
 use Rattle.card_piles.specs.declared.Suit.{Suit}
 use Rattle.card_piles.specs.declared.Suit.TheVariants.{Clubs, Diamonds, Hearts, Spades}
 use Rattle.card_piles.specs.declared.Card.{Card}
-use Rattle.card_piles.specs.Cards.{place_of, IsRank}
+use Rattle.card_piles.specs.Cards.{place_of}
+use Rattle.card_piles.specs.Ranks.{IsRank}
 use Rattle.game_rules.specs.Board.{Pile, empty_pile, suit_at}
-use Rattle.game_rules.specs.Position.{AreCards}
+use Rattle.game_rules.specs.Ranked.{AreCards}
 use Rattle.same_boards.specs.Keys.{card_byte, entry_byte, card_bytes, counted, pile_bytes, row_bytes}
+use Rattle.same_boards.specs.Bytes.{card_of_byte, entry_of_byte}
 
 -- ---- cards, entries and piles from their bytes
 
@@ -27,12 +29,6 @@ IsGoodEntry entry = IfSome entry (λ card. IsRank card.rank)
 
 abbrev pub IsGoodPile : Pile → Type 0
 IsGoodPile pile = AreCards pile.cards
-
-abbrev pub card_of_byte : ℕ → Card
-card_of_byte n = record { suit = suit_at ((n - 1) / 13); rank = (n - 1) % 13 + 1 }
-
-abbrev pub entry_of_byte : ℕ → Option Card
-entry_of_byte n = if n == 0 then None else Some (card_of_byte n)
 
 abbrev pub pile_of_bytes : List ℕ → Pile
 pile_of_bytes [] = empty_pile

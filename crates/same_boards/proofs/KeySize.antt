@@ -19,7 +19,8 @@ use Rattle.game_rules.specs.declared.RuleParts.{RuleParts}
 use Rattle.game_rules.specs.declared.Goal.{Goal}
 use Rattle.game_rules.specs.declared.Goal.TheVariants.{Foundations, Hole, Sequences}
 use Rattle.game_rules.specs.Rules.{is_foundation_goal, is_hole_goal, is_sequence_goal}
-use Rattle.game_rules.specs.Conflicts.{IsPlayable, HasLimits, has_parts_beside_rows}
+use Rattle.game_rules.specs.Conflicts.{has_parts_beside_rows}
+use Rattle.game_rules.specs.Playable.{IsPlayable, HasLimits}
 use Rattle.game_rules.specs.Board.{Board, Pile, top_of}
 use Rattle.game_rules.specs.Belonging.{Belongs}
 use Rattle.same_boards.specs.Same.{keeps_pile_order, heights_of_suit}

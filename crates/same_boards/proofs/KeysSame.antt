@@ -18,7 +18,7 @@ use Rattle.std.proofs.lemmas.Bool.{eqb-true}
 use Rattle.card_piles.specs.declared.Card.{Card}
 use Rattle.game_rules.specs.declared.RuleParts.{RuleParts}
 use Rattle.game_rules.specs.Rules.{is_foundation_goal, is_hole_goal, is_sequence_goal}
-use Rattle.game_rules.specs.Conflicts.{IsPlayable, HasLimits}
+use Rattle.game_rules.specs.Playable.{IsPlayable, HasLimits}
 use Rattle.game_rules.specs.Board.{Board, Pile, top_of, height_at}
 use Rattle.game_rules.specs.Play.{is_empty}
 use Rattle.game_rules.specs.Winning.{row_at, rows_of}
@@ -34,9 +34,10 @@ use Rattle.same_boards.proofs.SameWins.{row_length, rows_count}
 use Rattle.same_boards.proofs.SameLaws.{same_with_heights}
 use Rattle.same_boards.proofs.SameKeys.{key-from_same}
 use Rattle.same_boards.proofs.Sorting.{sorted-permutation, permutation-from_sorted}
-use Rattle.game_rules.specs.Position.{HasRanks}
+use Rattle.game_rules.specs.Ranked.{HasRanks}
 use Rattle.game_rules.proofs.Ranks.{ranks-belong}
-use Rattle.same_boards.proofs.KeyParts.{IsGood, IsGoodEntry, IsGoodPile, card_of_byte, entry_of_byte, pile_of_bytes}
+use Rattle.same_boards.specs.Bytes.{card_of_byte, entry_of_byte}
+use Rattle.same_boards.proofs.KeyParts.{IsGood, IsGoodEntry, IsGoodPile, pile_of_bytes}
 use Rattle.same_boards.proofs.KeyParts.{card-back, entry-back, pile-back, row-back, same-from_bytes}
 use Rattle.same_boards.proofs.KeyParts.{permutation-from_bytes, same_split, counted_split, if_split, concat_split}
 use Rattle.same_boards.proofs.KeyParts.{IsPileBytes, pile_splits, pile_bytes-is, row_splits}

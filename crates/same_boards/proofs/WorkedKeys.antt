@@ -8,10 +8,10 @@ use Rattle.card_piles.specs.declared.Suit.TheVariants.{Clubs, Diamonds, Hearts, 
 use Rattle.game_rules.specs.declared.RuleParts.{RuleParts}
 use Rattle.game_rules.specs.declared.Target.TheVariants.{ToTableau}
 use Rattle.game_rules.specs.Board.{Board}
-use Rattle.game_rules.specs.Conflicts.{IsPlayable}
+use Rattle.game_rules.specs.Playable.{IsPlayable}
 use Rattle.game_rules.specs.Belonging.{Belongs, copies_on, copies_due}
 use Rattle.same_boards.specs.Keys.{key_bytes}
-use Rattle.same_boards.specs.Colours.{colour_key_bytes}
+use Rattle.same_boards.specs.ColourKeys.{colour_key_bytes}
 use Rattle.same_boards.proofs.WorkedRows.{two_ranks, board_of, up, club, ace, ace_under_two}
 
 -- the same two piles in the other order

@@ -1,15 +1,13 @@
 -- Boards that are the same up to the suits of a colour, and the keys that tell no more.
-use Rattle.std.specs.Prelude.{◌≡◌, ℕ, List, [], ◌++◌, map, length, MatchBool, Option, Some, None, if◌then◌else◌}
+use Rattle.std.specs.Prelude.{◌≡◌, ℕ, List, ◌++◌, map, length, MatchBool, Option, Some, None, if◌then◌else◌}
 use Rattle.std.specs.List.Sorted.{IsPermutation}
 use Rattle.card_piles.specs.declared.Suit.TheVariants.{Clubs, Diamonds}
 use Rattle.card_piles.specs.declared.Card.{Card}
 use Rattle.card_piles.specs.Cards.{is_red}
 use Rattle.game_rules.specs.declared.RuleParts.{RuleParts}
-use Rattle.game_rules.specs.Rules.{is_foundation_goal}
 use Rattle.game_rules.specs.Board.{Board, Pile, top_of}
 use Rattle.game_rules.specs.Winning.{rows_of}
 use Rattle.same_boards.specs.Same.{keeps_pile_order, heights_of_suit}
-use Rattle.same_boards.specs.Keys.{sorted_bytes, key_with}
 
 -- two boards that differ in the order of like places, and maybe in the heights of their foundations
 pub record SameCards (rules : RuleParts) (a b : Board) : Type 0 where
@@ -61,14 +59,3 @@ pub record SameColours (rules : RuleParts) (a b : Board) : Type 0 where
   pub cards : SameCards rules (coloured_board a) (coloured_board b)
   pub black : IsPermutation (black_heights rules a) (black_heights rules b)
   pub red : IsPermutation (red_heights rules a) (red_heights rules b)
-
--- the heights of each colour in ascending order, where the game has foundations
-abbrev pub colour_height_bytes : RuleParts → Board → List ℕ
-colour_height_bytes rules board =
-    if is_foundation_goal rules.goal
-    then sorted_bytes (black_heights rules board) ++ sorted_bytes (red_heights rules board)
-    else []
-
--- the key that knows colours and ranks alone
-abbrev pub colour_key_bytes : RuleParts → Board → List ℕ
-colour_key_bytes rules board = key_with (colour_height_bytes rules board) rules (coloured_board board)

@@ -5,14 +5,15 @@ ghost use Rattle.card_piles.specs.declared.Suit.{Suit};
 ghost use Rattle.card_piles.specs.Cards.{is_red};
 ghost use Rattle.game_rules.specs.declared.RuleParts.{RuleParts};
 ghost use Rattle.game_rules.specs.declared.Move.{Move};
-ghost use Rattle.game_rules.specs.Conflicts.{IsPlayable};
+ghost use Rattle.game_rules.specs.Playable.{IsPlayable};
 ghost use Rattle.game_rules.specs.Board.{Board};
 ghost use Rattle.game_rules.specs.Play.{Legal, after};
 ghost use Rattle.game_rules.specs.Winning.{Wins};
 ghost use Rattle.game_rules.specs.Belonging.{Belongs};
 ghost use Rattle.same_boards.specs.Same.{Same};
 ghost use Rattle.same_boards.specs.Keys.{key_bytes, card_byte};
-ghost use Rattle.same_boards.specs.Colours.{SameColours, coloured, colour_key_bytes};
+ghost use Rattle.same_boards.specs.Colours.{SameColours, coloured};
+ghost use Rattle.same_boards.specs.ColourKeys.{colour_key_bytes};
 
 /// Being the same is an equivalence.
 pub fn being_the_same_is_an_equivalence()

@@ -5,11 +5,12 @@ use Rattle.std.specs.Cmp.Lexicographic.{pointwise, bytes_decides}
 use Rattle.trails.specs.Order.{IsAlike}
 use Rattle.trails.specs.Game.{Game}
 use Rattle.game_rules.specs.declared.RuleParts.{RuleParts}
-use Rattle.game_rules.specs.Conflicts.{IsPlayable}
+use Rattle.game_rules.specs.Playable.{IsPlayable}
 use Rattle.game_rules.specs.Board.{Board}
 use Rattle.game_rules.specs.Winning.{Won}
 use Rattle.game_rules.specs.Belonging.{Belongs}
-use Rattle.same_boards.specs.Colours.{SameColours, colour_key_bytes}
+use Rattle.same_boards.specs.Colours.{SameColours}
+use Rattle.same_boards.specs.ColourKeys.{colour_key_bytes}
 use Rattle.same_boards.proofs.SameLaws.{Same-refl, Same-sym, Same-trans, SameColours-refl}
 use Rattle.same_boards.proofs.SameLaws.{SameColours-sym, SameColours-trans}
 use Rattle.same_boards.proofs.ColourKeys.{colour_key-from_same, same-from_colour_key}

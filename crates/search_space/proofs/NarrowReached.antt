@@ -4,7 +4,7 @@ use Rattle.trails.specs.Game.{Game}
 use Rattle.trails.specs.Trails.{end, IsTrail}
 use Rattle.trails.specs.Complete.{IsReached}
 use Rattle.game_rules.specs.declared.RuleParts.{RuleParts}
-use Rattle.game_rules.specs.Conflicts.{IsPlayable}
+use Rattle.game_rules.specs.Playable.{IsPlayable}
 use Rattle.game_rules.specs.Board.{Board}
 use Rattle.game_rules.specs.Belonging.{Belongs}
 use Rattle.stock_steps.specs.declared.Step.{Step}

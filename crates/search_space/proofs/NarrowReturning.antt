@@ -2,11 +2,11 @@
 use Rattle.std.proofs.Common.{◌≡◌, ℕ, Bool, true, false, List, refl, ap, ◌∙◌}
 use Rattle.std.specs.Prelude.{Option, Some, None, IsSome, if◌then◌else◌}
 use Rattle.game_rules.specs.declared.RuleParts.{RuleParts}
-use Rattle.game_rules.specs.Conflicts.{IsPlayable}
+use Rattle.game_rules.specs.Playable.{IsPlayable}
 use Rattle.game_rules.specs.Belonging.{Belongs}
 use Rattle.game_rules.specs.Board.{Board}
 use Rattle.same_boards.specs.Keys.{key_bytes}
-use Rattle.same_boards.specs.Colours.{colour_key_bytes}
+use Rattle.same_boards.specs.ColourKeys.{colour_key_bytes}
 use Rattle.streamliner.specs.declared.Streamliner.{Streamliner}
 use Rattle.streamliner.specs.Narrow.{is_coarse}
 use Rattle.packed_state.specs.Packed.{Linked, board_of}

@@ -3,7 +3,7 @@ use Rattle.std.proofs.Common.{inl, inr, ◌≡◌, ◌≢◌, ℕ, ◌≤◌, Li
 use Rattle.std.specs.Prelude.{Option, Some, None}
 use Rattle.game_rules.specs.declared.RuleParts.{RuleParts}
 use Rattle.game_rules.specs.declared.Move.{Move}
-use Rattle.game_rules.specs.Conflicts.{IsPlayable}
+use Rattle.game_rules.specs.Playable.{IsPlayable}
 use Rattle.game_rules.specs.Board.{Board}
 use Rattle.game_rules.specs.Play.{Legal}
 use Rattle.game_rules.specs.Winning.{Line}
@@ -12,7 +12,8 @@ use Rattle.game_rules.specs.StockMoves.{after_stock_moves}
 use Rattle.game_rules.proofs.MovesListed.{legal_moves-exact, Contains-cases}
 use Rattle.safe_moves.proofs.FirstSafe.{find-listed}
 use Rattle.stock_steps.specs.declared.Step.{Step}
-use Rattle.stock_steps.specs.Steps.{CanBeMade, forced_or, steps}
+use Rattle.stock_steps.specs.Steps.{forced_or, steps}
+use Rattle.stock_steps.specs.Making.{CanBeMade}
 use Rattle.stock_steps.proofs.StepLines.{playable_draw, steps-made}
 use Rattle.stock_steps.proofs.StepsOnce.{steps-apart}
 use Rattle.streamliner.specs.declared.Streamliner.{Streamliner}

@@ -7,12 +7,14 @@ use Rattle.std.proofs.lemmas.List.Elements.{All-weaker}
 use Rattle.std.proofs.lemmas.List.Sums.{list_all-from_AllPass, AllPass-from_list_all}
 use Rattle.std.proofs.lemmas.Bool.{leb-true, le-leb, eq-eqb}
 use Rattle.card_piles.specs.declared.Card.{Card}
-use Rattle.card_piles.specs.Cards.{IsRank}
+use Rattle.card_piles.specs.Ranks.{IsRank}
 use Rattle.game_rules.specs.declared.RuleParts.{RuleParts}
-use Rattle.game_rules.specs.Conflicts.{HasLimits, is_within}
+use Rattle.game_rules.specs.Conflicts.{is_within}
+use Rattle.game_rules.specs.Playable.{HasLimits}
 use Rattle.game_rules.specs.Board.{Board, Pile}
 use Rattle.game_rules.specs.Belonging.{Belongs, foundation_count, slot_count}
-use Rattle.game_rules.specs.Position.{parts_of, fault_of, AreCards, AreEntries, HasRanks}
+use Rattle.game_rules.specs.Position.{parts_of, fault_of}
+use Rattle.game_rules.specs.Ranked.{AreCards, AreEntries, HasRanks}
 use Rattle.game_rules.proofs.Limits.{both}
 use Rattle.game_rules.proofs.ListFacts.{and_both}
 use Rattle.game_rules.proofs.Ranks.{ranks-belong}

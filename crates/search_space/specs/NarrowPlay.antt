@@ -4,7 +4,7 @@ use Rattle.game_rules.specs.declared.RuleParts.{RuleParts}
 use Rattle.game_rules.specs.Board.{Board}
 use Rattle.game_rules.specs.Winning.{is_won}
 use Rattle.same_boards.specs.Keys.{key_bytes}
-use Rattle.same_boards.specs.Colours.{colour_key_bytes}
+use Rattle.same_boards.specs.ColourKeys.{colour_key_bytes}
 use Rattle.stock_steps.specs.declared.Step.{Step}
 use Rattle.stock_steps.specs.Steps.{after_step}
 use Rattle.streamliner.specs.declared.Streamliner.{Streamliner}

@@ -2,7 +2,8 @@
 ghost use Rattle.std.specs.Prelude.{◌≡◌, Some, IsSome};
 ghost use Rattle.game_rules.specs.Belonging.{Belongs};
 ghost use Rattle.packed_state.specs.Packed.{board_of};
-ghost use Rattle.stock_steps.specs.Steps.{CanBeMade, after_step};
+ghost use Rattle.stock_steps.specs.Steps.{after_step};
+ghost use Rattle.stock_steps.specs.Making.{CanBeMade};
 ghost use Rattle.search_space.specs.Undoing.{before_step};
 
 use game_model::Rules;

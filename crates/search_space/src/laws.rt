@@ -3,7 +3,7 @@
 ghost use Rattle.std.specs.Prelude.{◌≡◌, ◌↔◌, true, nat_eq, Contains};
 ghost use Rattle.std.specs.Cmp.Lexicographic.{pointwise};
 ghost use Rattle.game_rules.specs.declared.RuleParts.{RuleParts};
-ghost use Rattle.game_rules.specs.Conflicts.{IsPlayable};
+ghost use Rattle.game_rules.specs.Playable.{IsPlayable};
 ghost use Rattle.game_rules.specs.Board.{Board};
 ghost use Rattle.game_rules.specs.Belonging.{Belongs};
 ghost use Rattle.game_rules.specs.Winning.{Line, Wins};
@@ -12,7 +12,8 @@ ghost use Rattle.same_boards.specs.Keys.{key_bytes};
 ghost use Rattle.trails.specs.Complete.{IsComplete};
 ghost use Rattle.trails.specs.Order.{IsAlike};
 ghost use Rattle.stock_steps.specs.declared.Step.{Step};
-ghost use Rattle.stock_steps.specs.Steps.{CanBeMade, after_step, expand};
+ghost use Rattle.stock_steps.specs.Steps.{after_step, expand};
+ghost use Rattle.stock_steps.specs.Making.{CanBeMade};
 ghost use Rattle.streamliner.specs.declared.Streamliner.{Streamliner};
 ghost use Rattle.search_space.specs.Game.{plain_game};
 ghost use Rattle.search_space.specs.Narrow.{NarrowSame, narrow_game, narrow_steps};

@@ -29,7 +29,7 @@ pub struct PlainSpace<'a> {
 }
 
 impl<'a> Model for PlainSpace<'a> {
-    ghost use Rattle.game_rules.specs.Conflicts.{IsPlayable};
+    ghost use Rattle.game_rules.specs.Playable.{IsPlayable};
     ghost use Rattle.game_rules.specs.Belonging.{Belongs};
     ghost use Rattle.packed_state.specs.Packed.{board_of};
     ghost use Rattle.search_space.specs.Plain.{Standing};

@@ -20,7 +20,8 @@ use Rattle.game_rules.specs.declared.Layout.TheVariants.{Even, Triangle}
 use Rattle.game_rules.specs.declared.HoleStart.TheVariants.{Dealt, Named}
 use Rattle.game_rules.specs.Rules.{base_of, deals_to_waste, is_foundation_goal, is_hole_goal}
 use Rattle.game_rules.specs.Rules.{is_sequence_goal, is_started}
-use Rattle.game_rules.specs.Conflicts.{IsPlayable, HasLimits, has_base_above, has_parts_beside_rows, is_base_within}
+use Rattle.game_rules.specs.Conflicts.{has_base_above, has_parts_beside_rows, is_base_within}
+use Rattle.game_rules.specs.Playable.{IsPlayable, HasLimits}
 use Rattle.game_rules.specs.Conflicts.{is_within, starts_above}
 use Rattle.game_rules.specs.Board.{Board, Pile}
 use Rattle.game_rules.specs.Play.{is_empty}

@@ -14,7 +14,7 @@ use Rattle.card_piles.specs.declared.Suit.{Suit}
 use Rattle.card_piles.specs.declared.Suit.TheVariants.{Clubs, Diamonds, Hearts, Spades}
 use Rattle.card_piles.specs.Builds.{same_suit}
 use Rattle.game_rules.specs.declared.RuleParts.{RuleParts}
-use Rattle.game_rules.specs.Conflicts.{HasLimits}
+use Rattle.game_rules.specs.Playable.{HasLimits}
 use Rattle.game_rules.specs.Belonging.{same_card, copies_of}
 use Rattle.game_rules.proofs.FewCards.{once, sum_by-same}
 use Rattle.game_rules.proofs.PositionLoops.{range-more}

@@ -2,7 +2,7 @@
 use Rattle.game_rules.specs.declared.Goal.{Goal}
 use Rattle.game_rules.specs.declared.Goal.TheVariants.{Foundations, Hole, Sequences}
 use Rattle.game_rules.specs.declared.HoleStart.TheVariants.{Dealt, Named}
-use Rattle.card_piles.specs.Cards.{IsRank}
+use Rattle.card_piles.specs.Ranks.{IsRank}
 
 -- a named start has one of the thirteen ranks, as every card of the program has
 abbrev pub HasStart : Goal → Type 0

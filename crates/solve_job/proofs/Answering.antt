@@ -16,9 +16,10 @@ use Rattle.dfs_core.proofs.Agree.{Agree, walk_there, next_there, closed_there, c
 use Rattle.game_rules.specs.declared.RuleParts.{RuleParts}
 use Rattle.game_rules.specs.declared.Move.{Move}
 use Rattle.game_rules.specs.Board.{Board}
-use Rattle.game_rules.specs.Conflicts.{IsPlayable}
+use Rattle.game_rules.specs.Playable.{IsPlayable}
 use Rattle.stock_steps.specs.declared.Step.{Step}
-use Rattle.stock_steps.specs.Steps.{CanBeMade, after_steps, expand_trail, steps}
+use Rattle.stock_steps.specs.Steps.{after_steps, expand_trail, steps}
+use Rattle.stock_steps.specs.Making.{CanBeMade}
 use Rattle.stock_steps.proofs.StockLaws.{trail_line}
 use Rattle.game_rules.specs.Winning.{Won, Wins}
 use Rattle.same_boards.specs.Same.{Same}

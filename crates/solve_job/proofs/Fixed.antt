@@ -21,7 +21,8 @@ use Rattle.search_space.proofs.Alike.{plain_game-is_alike}
 use Rattle.same_boards.specs.Same.{Same}
 use Rattle.solve_job.specs.declared.limits.Limits.{Limits}
 use Rattle.solve_job.proofs.Lines.{trail_end}
-use Rattle.solve_job.specs.Verdicts.{IsSearched, IsVerdict, IsPassed, nodes_of, narrow_nodes_of}
+use Rattle.solve_job.specs.Verdicts.{IsSearched, IsVerdict, IsPassed}
+use Rattle.solve_job.specs.Nodes.{nodes_of, narrow_nodes_of}
 
 -- where the start is not winnable, no line wins
 pub no_line_wins : (rules : RuleParts) (start : Board) (moves : List Move) (last : Board) → ¬ Winnable rules start
@@ -39,7 +40,7 @@ line_wins rules start limits line nodes narrow_nodes (inr narrow) =
     (after_steps rules start narrow.finds.trail, narrow.finds.legal, narrow.finds.won)
 
 -- no step stands twice
-plain_steps : (rules : RuleParts) (start : Board) → HasPlainSteps (plain_game rules) start
+pub plain_steps : (rules : RuleParts) (start : Board) → HasPlainSteps (plain_game rules) start
 plain_steps rules start = λ p is_trail. steps-apart rules (end (plain_game rules) start p)
 
 -- how a verdict ends its walk: a trail with a won end follows, or the walk is closed, or a trail to a new board

@@ -3,3 +3,4 @@ pub mod Answering
 pub mod Fixed
 pub mod Narrowing
 pub mod NarrowFixed
+pub mod Telling

@@ -5,11 +5,12 @@ use Rattle.trails.specs.Game.{Game}
 use Rattle.trails.specs.Trails.{end, IsTrail}
 use Rattle.game_rules.specs.declared.RuleParts.{RuleParts}
 use Rattle.game_rules.specs.declared.Move.{Move}
-use Rattle.game_rules.specs.Conflicts.{IsPlayable}
+use Rattle.game_rules.specs.Playable.{IsPlayable}
 use Rattle.game_rules.specs.Board.{Board}
 use Rattle.game_rules.specs.Winning.{Won, Winnable, Wins}
 use Rattle.stock_steps.specs.declared.Step.{Step}
-use Rattle.stock_steps.specs.Steps.{CanAllBeMade, CanBeMade, after_step, after_steps, expand, expand_trail, steps}
+use Rattle.stock_steps.specs.Steps.{after_step, after_steps, expand, expand_trail, steps}
+use Rattle.stock_steps.specs.Making.{CanAllBeMade, CanBeMade}
 use Rattle.stock_steps.proofs.StepLines.{playable_draw, steps-made}
 
 -- a game of these steps, whatever counts as won and as the same

@@ -18,7 +18,8 @@ use Rattle.search_space.specs.Narrow.{narrow_game, narrow_steps, NarrowSame}
 use Rattle.search_space.proofs.NarrowAlike.{narrow_game-is_alike}
 use Rattle.search_space.proofs.NarrowSteps.{narrow_steps-once}
 use Rattle.solve_job.specs.declared.limits.Limits.{Limits}
-use Rattle.solve_job.specs.Verdicts.{FindsWin, FindsNoWin, IsPassed, IsVerdict, narrow_nodes_of}
+use Rattle.solve_job.specs.Verdicts.{FindsWin, FindsNoWin, IsPassed, IsVerdict}
+use Rattle.solve_job.specs.Nodes.{narrow_nodes_of}
 use Rattle.solve_job.proofs.Lines.{trail_end}
 use Rattle.solve_job.proofs.Fixed.{passed_none}
 

@@ -6,10 +6,11 @@ use Rattle.dfs_core.specs.declared.trail.Found.TheVariants as found
 use Rattle.game_rules.specs.declared.RuleParts.{RuleParts}
 use Rattle.game_rules.specs.Belonging.{Belongs}
 use Rattle.game_rules.specs.Board.{Board}
-use Rattle.game_rules.specs.Conflicts.{IsPlayable}
+use Rattle.game_rules.specs.Playable.{IsPlayable}
 use Rattle.game_rules.specs.Winning.{Won}
 use Rattle.stock_steps.specs.declared.Step.{Step}
-use Rattle.stock_steps.specs.Steps.{CanAllBeMade, CanBeMade, expand_trail}
+use Rattle.stock_steps.specs.Steps.{expand_trail}
+use Rattle.stock_steps.specs.Making.{CanAllBeMade, CanBeMade}
 use Rattle.streamliner.specs.declared.Streamliner.{Streamliner}
 use Rattle.search_space.specs.Narrow.{narrow_game, narrow_steps, NarrowSame}
 use Rattle.search_space.proofs.NarrowAlike.{narrow_keyed_game, narrow-agrees}

@@ -1,2 +1,3 @@
 pub mod Verdicts
+pub mod Nodes
 pub mod Narrowing

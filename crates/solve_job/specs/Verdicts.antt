@@ -96,18 +96,6 @@ IsVerdict rules start limits (verdict.Unwinnable nodes narrow_nodes) =
 IsVerdict rules start limits (verdict.Undecided nodes narrow_nodes) =
     IsUndecided rules start limits.cache limits.nodes nodes × IsPassed rules start limits narrow_nodes
 
--- the nodes of a verdict
-abbrev pub nodes_of : Verdict → ℕ
-nodes_of (verdict.Winnable line nodes narrow_nodes) = nodes
-nodes_of (verdict.Unwinnable nodes narrow_nodes) = nodes
-nodes_of (verdict.Undecided nodes narrow_nodes) = nodes
-
--- the nodes of the restricted search
-abbrev pub narrow_nodes_of : Verdict → ℕ
-narrow_nodes_of (verdict.Winnable line nodes narrow_nodes) = narrow_nodes
-narrow_nodes_of (verdict.Unwinnable nodes narrow_nodes) = narrow_nodes
-narrow_nodes_of (verdict.Undecided nodes narrow_nodes) = narrow_nodes
-
 -- the verdict is winnable or unwinnable
 abbrev pub IsDecided : Verdict → Type 0
 IsDecided (verdict.Winnable line nodes narrow_nodes) = ⊤

@@ -1,6 +1,6 @@
 //! What a verdict says in plain words, each the contract of a function that does nothing.
 
-ghost use Rattle.std.specs.Prelude.{◌≡◌, ℕ, ◌≤◌, List};
+ghost use Rattle.std.specs.Prelude.{◌≡◌, ◌≢◌, ℕ, ◌≤◌, List};
 ghost use Rattle.game_rules.specs.declared.RuleParts.{RuleParts};
 ghost use Rattle.game_rules.specs.declared.Move.{Move};
 ghost use Rattle.game_rules.specs.Board.{Board};
@@ -8,7 +8,11 @@ ghost use Rattle.game_rules.specs.Winning.{Won, Line};
 ghost use Rattle.line_printer.specs.declared.verdict.Verdict.{Verdict};
 ghost use Rattle.line_printer.specs.declared.verdict.Verdict.TheVariants as verdict;
 ghost use Rattle.solve_job.specs.declared.limits.Limits.{Limits};
-ghost use Rattle.solve_job.specs.Verdicts.{IsVerdict, nodes_of, narrow_nodes_of};
+ghost use Rattle.search_space.specs.Game.{plain_game};
+ghost use Rattle.search_space.specs.Narrow.{narrow_game};
+ghost use Rattle.trails.specs.Many.{HasMoreTrails};
+ghost use Rattle.solve_job.specs.Verdicts.{FindsWin, IsVerdict};
+ghost use Rattle.solve_job.specs.Nodes.{nodes_of, narrow_nodes_of};
 
 /// Winnable: each move of the line is legal where it is made, and the last board is won.
 pub fn winnable_means_that_the_line_wins()
@@ -30,6 +34,33 @@ pub fn undecided_means_that_all_nodes_are_spent()
     ensures { (rules : RuleParts) (start : Board) (limits : Limits) (nodes narrow_nodes : ℕ)
         → IsVerdict rules start limits (verdict.Undecided nodes narrow_nodes)
         → nodes ≡ limits.nodes }
+{}
+
+/// Undecided: the game has more clean trails than nodes were spent, none of them with more steps than that.
+pub fn undecided_means_that_trails_are_many()
+    ensures { (rules : RuleParts) (start : Board) (limits : Limits) (nodes narrow_nodes : ℕ)
+        → IsVerdict rules start limits (verdict.Undecided nodes narrow_nodes)
+        → HasMoreTrails (plain_game rules) start nodes }
+{}
+
+/// Where no restricted search is asked for, none of its nodes is counted.
+pub fn narrow_nodes_are_asked_for()
+    ensures { (rules : RuleParts) (start : Board) (limits : Limits) (verdict : Verdict)
+        → limits.narrow ≡ 0 → IsVerdict rules start limits verdict → narrow_nodes_of verdict ≡ 0 }
+{}
+
+/// Winnable: the nodes tell which search found the line. With one at least it was the plain search; with none, where
+/// the start is not won, it was the restricted one, which was asked for.
+pub fn nodes_tell_which_search_won()
+    ensures plain { (rules : RuleParts) (start : Board) (limits : Limits) (line : List Move)
+        (nodes narrow_nodes : ℕ)
+        → IsVerdict rules start limits (verdict.Winnable line nodes narrow_nodes) → 1 ≤ nodes
+        → FindsWin (plain_game rules) rules start limits.cache limits.nodes line nodes }
+    ensures restricted { (rules : RuleParts) (start : Board) (limits : Limits) (line : List Move)
+        (narrow_nodes : ℕ)
+        → IsVerdict rules start limits (verdict.Winnable line 0 narrow_nodes) → ¬ Won rules start
+        → (limits.narrow ≢ 0) × FindsWin (narrow_game rules limits.way) rules start limits.cache
+        limits.narrow line narrow_nodes }
 {}
 
 /// Where no restricted search comes first and no more nodes were spent than the cache has room for, the rules, the

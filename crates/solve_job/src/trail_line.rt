@@ -1,7 +1,8 @@
 //! The line of a trail: the single moves of its steps.
 ghost use Rattle.std.specs.Prelude.{◌≡◌, IfOk};
 ghost use Rattle.game_rules.specs.Belonging.{Belongs};
-ghost use Rattle.stock_steps.specs.Steps.{CanAllBeMade, expand_trail};
+ghost use Rattle.stock_steps.specs.Steps.{expand_trail};
+ghost use Rattle.stock_steps.specs.Making.{CanAllBeMade};
 
 use card_piles::NoMemory;
 use game_model::{Board, Rules};

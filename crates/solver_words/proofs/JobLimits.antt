@@ -23,7 +23,8 @@ use Rattle.solver_words.specs.Numbers.{number_of, number_within, within}
 use Rattle.solver_words.specs.Options.{no_options, setting_at, memo_named, way_named, value_at}
 use Rattle.solver_words.specs.Options.{with_value, options_from}
 use Rattle.solver_words.specs.Jobs.{solve_given, after_name, no_more, names_deal, seed_of, solve_file_of, solve_seed_of}
-use Rattle.solver_words.specs.Jobs.{solve_of, replay_of, deal_of, rules_of, job_of, IsWithinLimits}
+use Rattle.solver_words.specs.Jobs.{solve_of, replay_of, deal_of, rules_of, job_of}
+use Rattle.solver_words.specs.Bounds.{IsWithinLimits}
 use Rattle.solver_words.proofs.Choices.{ok_before}
 
 -- A number within limits is at least the lower one and at most the higher one.

@@ -1,5 +1,5 @@
 -- What the command words name: a job, or the first fault.
-use Rattle.std.specs.Prelude.{ℕ, ◌≤◌, ⊤, List, [], ◌∷◌, Bool, false, not, Option, Some, None, nat_eq, unwrap_or, Result}
+use Rattle.std.specs.Prelude.{ℕ, List, [], ◌∷◌, Bool, false, not, Option, Some, None, nat_eq, unwrap_or, Result}
 use Rattle.std.specs.Prelude.{Ok, Err, codes, if◌then◌else◌}
 use Rattle.std.specs.List.{starts_with}
 use Rattle.std.specs.Str.{bytes_eq}
@@ -88,19 +88,3 @@ job_of (command ∷ words) =
     else (if bytes_eq command (codes "deal") then deal_of words
     else (if bytes_eq command (codes "rules") then rules_of words
     else Err UnknownCommand)))
-
--- how many files the job has, which the words from 1 on name
-abbrev pub name_count : Job → ℕ
-name_count (job.Solve File cache nodes narrow way memo) = 2
-name_count (job.Solve (FromSeed seed) cache nodes narrow way memo) = 1
-name_count job.Replay = 3
-name_count (job.Deal seed) = 1
-name_count job.Rules = 1
-
--- the numbers of the job are within their limits; a seed may be any number
-abbrev pub IsWithinLimits : Job → Type 0
-IsWithinLimits (job.Solve source cache nodes narrow way memo) = (1 ≤ cache) × (cache ≤ 4000000) × (1 ≤ nodes)
-    × (nodes ≤ 1000000000000) × (narrow ≤ 1000000000000)
-IsWithinLimits job.Replay = ⊤
-IsWithinLimits (job.Deal seed) = ⊤
-IsWithinLimits job.Rules = ⊤

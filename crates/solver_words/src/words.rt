@@ -4,7 +4,7 @@ ghost use Rattle.solver_words.specs.Texts.{texts};
 ghost use Rattle.solver_words.specs.Jobs.{is_name as is_name_of, after_name as after_name_of, no_more as no_more_of};
 ghost use Rattle.solver_words.specs.Jobs.{names_deal as names_deal_of, solve_given as solve_given_of, solve_file_of};
 ghost use Rattle.solver_words.specs.Jobs.{solve_seed_of, solve_of, replay_of, deal_of, rules_of, job_of};
-ghost use Rattle.solver_words.specs.Jobs.{name_count, IsWithinLimits};
+ghost use Rattle.solver_words.specs.Bounds.{name_count, IsWithinLimits};
 
 use crate::options::{Options, Taker, read_options};
 use crate::{Job, MemoWord, Source, Way, WordFault};

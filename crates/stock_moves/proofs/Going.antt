@@ -11,7 +11,8 @@ use Rattle.game_rules.specs.declared.RuleParts.{RuleParts}
 use Rattle.game_rules.specs.Rules.{deals_to_waste, is_unlimited}
 use Rattle.game_rules.specs.Board.{Board}
 use Rattle.game_rules.specs.Play.{after}
-use Rattle.game_rules.specs.StockMoves.{HasStockMoves, IsNextByStock, stock_move, after_stock_move, after_stock_moves}
+use Rattle.game_rules.specs.StockMoves.{stock_move, after_stock_move, after_stock_moves}
+use Rattle.game_rules.specs.NextByStock.{HasStockMoves, IsNextByStock}
 use Rattle.game_rules.proofs.StockMoves.{stock_move_cases, after_stock_moves-suc}
 use Rattle.stock_steps.specs.declared.Step.{Step}
 use Rattle.stock_steps.specs.Steps.{steps_from, waste_carries}

@@ -7,11 +7,12 @@ use Rattle.game_rules.specs.declared.RuleParts.{RuleParts}
 use Rattle.game_rules.specs.declared.Move.{Move}
 use Rattle.game_rules.specs.declared.Move.TheVariants.{Deal, Redeal}
 use Rattle.game_rules.specs.Rules.{deals_to_waste}
-use Rattle.game_rules.specs.Conflicts.{IsPlayable, HasLimits}
+use Rattle.game_rules.specs.Playable.{IsPlayable, HasLimits}
 use Rattle.game_rules.specs.Belonging.{Belongs}
 use Rattle.game_rules.specs.Board.{Board}
 use Rattle.game_rules.specs.Play.{is_empty, is_legal_redeal}
-use Rattle.game_rules.specs.StockMoves.{IsNextByStock, stock_move, after_stock_move, after_stock_moves}
+use Rattle.game_rules.specs.StockMoves.{stock_move, after_stock_move, after_stock_moves}
+use Rattle.game_rules.specs.NextByStock.{IsNextByStock}
 use Rattle.game_rules.proofs.Limits.{limits_of}
 use Rattle.stock_steps.specs.Steps.{stock_moves}
 use Rattle.stock_steps.proofs.StockKin.{kin_after, kin_size, next_cases, one_stock_move, size}

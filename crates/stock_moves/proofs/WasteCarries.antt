@@ -16,7 +16,8 @@ use Rattle.game_rules.specs.Taking.{most_taken, can_take, taken}
 use Rattle.game_rules.specs.Putting.{can_put}
 use Rattle.game_rules.specs.Play.{is_legal_move, same_place}
 use Rattle.game_rules.specs.Order.{entry_count, hole_place, sources, targets}
-use Rattle.game_rules.proofs.Listing.{filter-flat_map, legal_between, legal_to, legal_moves-by_place}
+use Rattle.game_rules.specs.ByPlace.{legal_between, legal_to}
+use Rattle.game_rules.proofs.Listing.{filter-flat_map, legal_moves-by_place}
 use Rattle.legal_moves.proofs.Offered.{flat_map-none}
 use Rattle.stock_steps.specs.declared.Step.{Step}
 use Rattle.stock_steps.specs.Steps.{is_from_waste, steps_from, waste_carries}

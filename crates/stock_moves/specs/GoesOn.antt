@@ -5,7 +5,8 @@ use Rattle.game_rules.specs.declared.RuleParts.{RuleParts}
 use Rattle.game_rules.specs.Rules.{is_unlimited}
 use Rattle.game_rules.specs.Board.{Board}
 use Rattle.game_rules.specs.Play.{after}
-use Rattle.game_rules.specs.StockMoves.{IsNextByStock, stock_move}
+use Rattle.game_rules.specs.StockMoves.{stock_move}
+use Rattle.game_rules.specs.NextByStock.{IsNextByStock}
 
 -- the number of cards in the stock after the next stock move, if the board has one
 abbrev pub next_stock : RuleParts → Board → Option ℕ

@@ -2,7 +2,8 @@
 ghost use Rattle.std.specs.Prelude.{◌≡◌, ◌++◌, OnOk, OnErr};
 ghost use Rattle.game_rules.specs.Belonging.{Belongs};
 ghost use Rattle.packed_state.specs.Packed.{board_of};
-ghost use Rattle.stock_steps.specs.Steps.{CanBeMade, expand, stock_moves};
+ghost use Rattle.stock_steps.specs.Steps.{expand, stock_moves};
+ghost use Rattle.stock_steps.specs.Making.{CanBeMade};
 ghost use Rattle.legal_moves.specs.Offers.{StartsWith};
 
 use card_piles::NoMemory;

@@ -5,10 +5,10 @@ use Rattle.std.proofs.Common.{arith, IsTrue, ◌==◌, if◌then◌else◌}
 use Rattle.std.proofs.lemmas.Bool.Decides.{nat_tests}
 use Rattle.game_rules.specs.declared.RuleParts.{RuleParts}
 use Rattle.game_rules.specs.Rules.{deals_to_waste, is_unlimited}
-use Rattle.game_rules.specs.Conflicts.{IsPlayable, HasLimits}
+use Rattle.game_rules.specs.Playable.{IsPlayable, HasLimits}
 use Rattle.game_rules.specs.Belonging.{Belongs}
 use Rattle.game_rules.specs.Board.{Board}
-use Rattle.game_rules.specs.StockMoves.{IsNextByStock}
+use Rattle.game_rules.specs.NextByStock.{IsNextByStock}
 use Rattle.stock_steps.specs.StockSteps.{IsStockRun, StockStep}
 use Rattle.stock_steps.specs.declared.Step.{Step}
 use Rattle.game_rules.proofs.Limits.{limits_of}

@@ -6,7 +6,7 @@ use Rattle.card_piles.specs.declared.Card.{Card}
 use Rattle.game_rules.specs.declared.RuleParts.{RuleParts}
 use Rattle.game_rules.specs.Rules.{deals_to_waste, is_unlimited}
 use Rattle.game_rules.specs.Board.{Board}
-use Rattle.game_rules.specs.StockMoves.{IsNextByStock}
+use Rattle.game_rules.specs.NextByStock.{IsNextByStock}
 use Rattle.stock_steps.specs.StockSteps.{IsStockRun, StandsBefore, ComesAgain}
 use Rattle.stock_steps.proofs.StockKin.{Kin-trans, size, next_cases, next_kin, kin_size, same_length}
 use Rattle.stock_steps.proofs.StockKin.{dealt_length, redealt_length}

@@ -9,16 +9,19 @@ use Rattle.game_rules.specs.declared.Move.{Move}
 use Rattle.game_rules.specs.declared.Redeals.{Redeals}
 use Rattle.game_rules.specs.declared.Redeals.TheVariants.{Times, Unlimited}
 use Rattle.game_rules.specs.Rules.{deals_to_waste, is_unlimited}
-use Rattle.game_rules.specs.Conflicts.{IsPlayable, HasLimits, are_redeals_within, is_within}
+use Rattle.game_rules.specs.Conflicts.{are_redeals_within, is_within}
+use Rattle.game_rules.specs.Playable.{IsPlayable, HasLimits}
 use Rattle.game_rules.specs.Belonging.{Belongs, most_redeals}
 use Rattle.game_rules.specs.Board.{Board}
 use Rattle.game_rules.specs.Play.{Legal, after}
 use Rattle.game_rules.specs.Winning.{Line}
 use Rattle.game_rules.specs.Order.{legal_moves}
-use Rattle.game_rules.specs.StockMoves.{stock_move, IsNextByStock, after_stock_move, after_stock_moves}
+use Rattle.game_rules.specs.StockMoves.{stock_move, after_stock_move, after_stock_moves}
+use Rattle.game_rules.specs.NextByStock.{IsNextByStock}
 use Rattle.safe_moves.specs.Safe.{first_safe, is_safe}
 use Rattle.stock_steps.specs.Steps.{stock_steps, is_from_waste, is_from_elsewhere, other_carries, forced_or}
-use Rattle.stock_steps.specs.Steps.{stock_steps_after, steps_from, most_stock_moves, free_steps, steps, CanBeMade}
+use Rattle.stock_steps.specs.Steps.{stock_steps_after, steps_from, most_stock_moves, free_steps, steps}
+use Rattle.stock_steps.specs.Making.{CanBeMade}
 use Rattle.stock_steps.specs.Steps.{stock_moves, expand, after_step}
 use Rattle.stock_steps.specs.StockSteps.{IsStockRun, StockStep}
 use Rattle.stock_steps.specs.declared.Step.{Step}

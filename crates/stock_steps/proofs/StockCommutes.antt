@@ -16,7 +16,8 @@ use Rattle.game_rules.specs.Taking.{can_take, taken, without}
 use Rattle.game_rules.specs.Putting.{can_put, with_cards}
 use Rattle.game_rules.specs.Play.{Legal, is_empty, is_legal_carry, after, after_deal_to}
 use Rattle.game_rules.specs.Winning.{Won, is_won}
-use Rattle.game_rules.specs.StockMoves.{is_carry, IsNextByStock}
+use Rattle.game_rules.specs.StockMoves.{is_carry}
+use Rattle.game_rules.specs.NextByStock.{IsNextByStock}
 use Rattle.stock_steps.specs.Steps.{is_from_waste}
 use Rattle.stock_steps.specs.StockSteps.{Commute}
 use Rattle.game_rules.proofs.Limits.{both}

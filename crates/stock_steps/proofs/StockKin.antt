@@ -12,7 +12,8 @@ use Rattle.game_rules.specs.declared.Move.TheVariants.{Carry, Deal, Redeal}
 use Rattle.game_rules.specs.Rules.{deals_to_waste, is_unlimited}
 use Rattle.game_rules.specs.Board.{Board, top_part, below_top}
 use Rattle.game_rules.specs.Play.{Legal, is_empty, after}
-use Rattle.game_rules.specs.StockMoves.{is_carry, IsNextByStock, stock_move, after_stock_move, after_stock_moves, queue}
+use Rattle.game_rules.specs.StockMoves.{is_carry, stock_move, after_stock_move, after_stock_moves}
+use Rattle.game_rules.specs.NextByStock.{IsNextByStock, queue}
 use Rattle.game_rules.proofs.Limits.{both}
 use Rattle.game_rules.proofs.StockMoves.{with_stock, Dealt, after_deal, stock_move-exact}
 use Rattle.game_rules.proofs.StockMoves.{stock_move_cases, queue-after_stock_moves}

@@ -6,7 +6,7 @@ use Rattle.game_rules.specs.declared.RuleParts.{RuleParts}
 use Rattle.game_rules.specs.declared.Move.{Move}
 use Rattle.game_rules.specs.declared.Move.TheVariants.{Carry, Deal, Redeal}
 use Rattle.game_rules.specs.Rules.{deals_to_waste}
-use Rattle.game_rules.specs.Conflicts.{IsPlayable}
+use Rattle.game_rules.specs.Playable.{IsPlayable}
 use Rattle.game_rules.specs.Belonging.{Belongs}
 use Rattle.game_rules.specs.Board.{Board}
 use Rattle.game_rules.specs.Play.{Legal, after}
@@ -20,7 +20,8 @@ use Rattle.safe_moves.specs.Safe.{first_safe, is_safe}
 use Rattle.safe_moves.proofs.FirstSafe.{find-passes}
 use Rattle.safe_moves.proofs.SafeExchange.{exchange}
 use Rattle.stock_steps.specs.declared.Step.{Step}
-use Rattle.stock_steps.specs.Steps.{CanAllBeMade, CanBeMade, after_step, after_steps, expand, expand_trail}
+use Rattle.stock_steps.specs.Steps.{after_step, after_steps, expand, expand_trail}
+use Rattle.stock_steps.specs.Making.{CanAllBeMade, CanBeMade}
 use Rattle.stock_steps.specs.Steps.{is_from_elsewhere, is_from_waste}
 use Rattle.stock_steps.specs.StockSteps.{Commute, HasWinningStep}
 use Rattle.stock_steps.proofs.StockCommutes.{carry_first}

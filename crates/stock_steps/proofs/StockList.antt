@@ -8,7 +8,8 @@ use Rattle.game_rules.specs.Rules.{deals_to_waste}
 use Rattle.game_rules.specs.Board.{Board}
 use Rattle.game_rules.specs.Play.{Legal}
 use Rattle.game_rules.specs.Order.{legal_moves}
-use Rattle.game_rules.specs.StockMoves.{IsNextByStock, after_stock_move, after_stock_moves}
+use Rattle.game_rules.specs.StockMoves.{after_stock_move, after_stock_moves}
+use Rattle.game_rules.specs.NextByStock.{IsNextByStock}
 use Rattle.stock_steps.specs.Steps.{is_from_waste, stock_steps, stock_steps_after, steps_from}
 use Rattle.stock_steps.specs.Steps.{most_stock_moves, waste_carries}
 use Rattle.stock_steps.specs.StockSteps.{IsStockRun, IsWholeRun, IsAlongRun, StockStep}

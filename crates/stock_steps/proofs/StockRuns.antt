@@ -10,14 +10,14 @@ use Rattle.game_rules.specs.declared.RuleParts.{RuleParts}
 use Rattle.game_rules.specs.Rules.{deals_to_waste, is_unlimited}
 use Rattle.game_rules.specs.Board.{Board}
 use Rattle.game_rules.specs.Play.{after}
-use Rattle.game_rules.specs.StockMoves.{stock_move, IsNextByStock, after_stock_move, after_stock_moves}
+use Rattle.game_rules.specs.StockMoves.{stock_move, after_stock_move, after_stock_moves}
+use Rattle.game_rules.specs.NextByStock.{IsNextByStock, queue}
 use Rattle.stock_steps.specs.Steps.{same_stock, next_stock_board, stock_steps_after, steps_from}
 use Rattle.stock_steps.specs.Steps.{most_stock_moves, waste_carries}
 use Rattle.stock_steps.specs.declared.Step.{Step}
 use Rattle.game_rules.proofs.StockMoves.{Dealt, HasNext, with_stock, stock_move_cases}
 use Rattle.stock_steps.proofs.StockKin.{Kin, Kin-refl, Kin-sym, Kin-trans, Redealt, size, next_cases, next_kin, next_is}
 use Rattle.stock_steps.proofs.StockKin.{kin_size, kin_same, same_stock-equal, one_stock_move, dealt_less, dealt_redeals}
-use Rattle.game_rules.specs.StockMoves.{queue}
 
 -- the board stands in the list
 abbrev pub In : Board → List Board → Type 0

@@ -1,6 +1,6 @@
 -- The steps of a board in their order, and the single moves of a step.
 use Rattle.std.specs.Prelude.{ℕ, zero, suc, ◌+◌, ◌*◌, Bool, true, false, ◌==◌, ◌&&◌, not, List, [], ◌∷◌, ◌++◌, map}
-use Rattle.std.specs.Prelude.{length, Option, Some, None, if◌then◌else◌, ⊤}
+use Rattle.std.specs.Prelude.{length, Option, Some, None, if◌then◌else◌}
 use Rattle.std.specs.List.{filter, list_any}
 use Rattle.std.specs.Option.{option_to_list}
 use Rattle.card_piles.specs.declared.Card.{Card}
@@ -11,9 +11,9 @@ use Rattle.game_rules.specs.declared.Move.TheVariants.{Carry, Deal, Redeal}
 use Rattle.game_rules.specs.declared.Place.TheVariants.{Tableau, Cell, Reserve, Waste, Foundation, Hole, Slot}
 use Rattle.game_rules.specs.Rules.{deals_to_waste}
 use Rattle.game_rules.specs.Board.{Board}
-use Rattle.game_rules.specs.Play.{Legal, after}
+use Rattle.game_rules.specs.Play.{after}
 use Rattle.game_rules.specs.Order.{legal_moves}
-use Rattle.game_rules.specs.StockMoves.{HasStockMoves, is_carry, stock_move, after_stock_move, after_stock_moves}
+use Rattle.game_rules.specs.StockMoves.{is_carry, stock_move, after_stock_move, after_stock_moves}
 use Rattle.safe_moves.specs.Safe.{first_safe}
 use Rattle.stock_steps.specs.declared.Step.{Step}
 
@@ -33,11 +33,6 @@ expand rules board step = stock_moves rules step.deals board ++ step.last ∷ []
 abbrev pub after_step : RuleParts → Board → Step → Board
 after_step rules board step = after rules (after_stock_moves rules step.deals board) step.last
 
--- the step's stock moves can be made from the board, and its last move is legal after them
-pub record CanBeMade (rules : RuleParts) (board : Board) (step : Step) : Type 0 where
-  pub stock : HasStockMoves rules step.deals board
-  pub last : Legal rules (after_stock_moves rules step.deals board) step.last
-
 -- the single moves of a list of steps, each step's on the board where it is made, one after the other
 abbrev pub expand_trail : RuleParts → Board → List Step → List Move
 expand_trail rules board [] = []
@@ -48,12 +43,6 @@ expand_trail rules board (step ∷ steps) = expand rules board step
 abbrev pub after_steps : RuleParts → Board → List Step → Board
 after_steps rules board [] = board
 after_steps rules board (step ∷ steps) = after_steps rules (after_step rules board step) steps
-
--- each step can be made from the board to which the steps before it lead
-abbrev pub CanAllBeMade : RuleParts → Board → List Step → Type 0
-CanAllBeMade rules board [] = ⊤
-CanAllBeMade rules board (step ∷ steps) = CanBeMade rules board step
-    × CanAllBeMade rules (after_step rules board step) steps
 
 -- The steps of a board.
 

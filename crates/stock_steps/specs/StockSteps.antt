@@ -7,7 +7,7 @@ use Rattle.game_rules.specs.Rules.{deals_to_waste}
 use Rattle.game_rules.specs.Board.{Board}
 use Rattle.game_rules.specs.Play.{Legal, after}
 use Rattle.game_rules.specs.Winning.{Wins}
-use Rattle.game_rules.specs.StockMoves.{IsNextByStock}
+use Rattle.game_rules.specs.NextByStock.{IsNextByStock}
 use Rattle.stock_steps.specs.declared.Step.{Step}
 use Rattle.stock_steps.specs.Steps.{after_step, is_from_waste, steps, steps_from, waste_carries}
 

@@ -8,6 +8,7 @@ ghost use Rattle.trails.specs.Walks.{Follows, IsWalk, IsClosed};
 ghost use Rattle.trails.specs.Fresh.{IsFresh, IsCover};
 ghost use Rattle.trails.specs.Complete.{IsComplete};
 ghost use Rattle.trails.specs.Order.{HasPlainSteps, HasPlainEnds, IsOpen, IsAlike, IsEnded};
+ghost use Rattle.trails.specs.Many.{HasMoreTrails};
 
 /// What has a game, as the laws see it. No code plays it.
 pub trait HasGame {
@@ -125,6 +126,17 @@ pub fn covers_are_longer<G: HasGame>(of: &G)
         → IsFresh (G.game of.now) fresh start (walk ++ z ∷ [])
         → IsCover (G.game of.now) start states
         → min (length walk) fresh < length states }
+{}
+
+/// Where a clean trail follows a walk, the game has more clean trails than the walk, none with more steps than the walk
+/// has trails.
+pub fn clean_trails_are_more<G: HasGame>(of: &G)
+    ensures { (start : G.State) (walk : List (List G.Step)) (z : List G.Step)
+        → HasPlainSteps (G.game of.now) start
+        → IsWalk (G.game of.now) start walk
+        → IsClean (G.game of.now) start z
+        → Follows (G.game of.now) start walk z
+        → HasMoreTrails (G.game of.now) start (length walk) }
 {}
 
 /// In a complete game a closed walk leaves no win. This is why a search that is exhausted may say so.

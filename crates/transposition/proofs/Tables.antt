@@ -1,5 +1,5 @@
 -- what each call does to the table
-use Rattle.std.proofs.Common.{◌≡◌, ℕ, ◌<◌, ◌≤◌, ◌^◌, Bool, true, false, List, [], ◌∷◌, ◌++◌, length, get_or, take, sym}
+use Rattle.std.proofs.Common.{◌≡◌, ℕ, ◌+◌, ◌<◌, ◌≤◌, ◌^◌, Bool, true, false, List, [], ◌∷◌, ◌++◌, length, get_or, take, sym}
 use Rattle.std.proofs.Common.{◌∙◌, subst, arith, Contains, inl, inr}
 use Rattle.std.proofs.lemmas.Bool.{cases_eq, cases_lt}
 use Rattle.std.proofs.lemmas.List.{length-append, get_or_append_left, get_or_push, length_push, get_or_past}
@@ -112,6 +112,20 @@ pub spare_new : (free keys path chains flags nodes : ℕ) → 1 ≤ keys → 1 �
     → 1 ≤ spare_of free keys path chains flags nodes
 unfolding spare_of
 spare_new free keys path chains flags nodes a b c d e = omega arith
+
+-- a key that goes into a free slot takes one
+pub spare_reused : (free free' keys path chains chains' flags flags' nodes nodes' : ℕ) → free ≤ free' + 1
+    → chains ≡ chains' → flags ≡ flags' → nodes ≡ nodes'
+    → spare_of free keys path chains flags nodes ≤ spare_of free' keys path chains' flags' nodes' + 1
+unfolding spare_of
+spare_reused free free' keys path chains chains' flags flags' nodes nodes' a b c d = omega arith
+
+-- a key in a new slot takes the room of one
+pub spare_entered : (free free' keys keys' path path' chains chains' flags flags' nodes nodes' : ℕ) → free ≤ free'
+    → keys ≤ keys' + 1 → path ≤ path' + 1 → chains ≤ chains' + 1 → flags ≤ flags' + 1 → nodes ≤ nodes' + 1
+    → spare_of free keys path chains flags nodes ≤ spare_of free' keys' path' chains' flags' nodes' + 1
+unfolding spare_of
+spare_entered free free' keys keys' path path' chains chains' flags flags' nodes nodes' a b c d e f = omega arith
 
 pub spare_parts : (free keys path chains flags nodes : ℕ) → 1 ≤ spare_of free keys path chains flags nodes → free ≡ 0
     → (1 ≤ keys) × (1 ≤ path) × (1 ≤ chains) × (1 ≤ flags) × (1 ≤ nodes)

@@ -1,7 +1,7 @@
 //! A memo in one table, whose slots are linked by index.
 
 ghost use Rattle.std.specs.Prelude.{◌≡◌, ◌≢◌, ◌+◌, ◌-◌, ◌<◌, ◌≤◌, ◌^◌, ◌⊎◌, true, false, [], ◌++◌, ◌∷◌, length, take};
-ghost use Rattle.std.specs.Prelude.{slice_index, slice_index_or, IfOk, IsOk, OnOk, OnErr, ℕ, Contains};
+ghost use Rattle.std.specs.Prelude.{nat_le, slice_index, slice_index_or, IfOk, IsOk, OnOk, OnErr, ℕ, Contains};
 ghost use Rattle.std.specs.Prelude.{vec_capacity, vec_len};
 ghost use Rattle.transposition.specs.Memo.{HoldsEachKeyOnce, LeavesLast};
 ghost use Rattle.transposition.specs.Table.{hash32, IsTable, flag_at, keys_at, spare_of};
@@ -75,6 +75,13 @@ fn find<K: Eq>(
         node = chains.next_with(node);
     }
     node
+}
+
+/// Whether so many keys are all that the table numbers: a node is 32 bits, and sixteen numbers are left unused.
+fn is_full(keys: usize) -> bool
+    ensures { result ≡ nat_le 4294967280 keys }
+{
+    keys >= 0xffff_fff0
 }
 
 /// Sees to a flag for the node.
@@ -166,10 +173,10 @@ impl<K: Eq + Hash + Drop> Memo<K> for LinkedMemo<K> {
         if self.depth < self.path.len() {
             return Ok(());
         }
-        let last = self.keys.len() + 1;
-        if last > 0xffff_fff0 {
+        if is_full(self.keys.len()) {
             return Err(NoMemory);
         }
+        let last = self.keys.len() + 1;
         self.keys.reserve(1)?;
         self.path.reserve(1)?;
         self.chains.make_room()?;

@@ -1,6 +1,7 @@
 //! What a carry and a redeal change on a board.
 ghost use Rattle.std.specs.Prelude.{◌≡◌, ◌≤◌, ◌<◌, ◌+◌, ◌-◌, ◌++◌, min, length, IsTrue, OnOk, OnErr};
-ghost use Rattle.game_rules.specs.Board.{has_entry, has_place, has_cards, number_at};
+ghost use Rattle.game_rules.specs.Board.{has_place};
+ghost use Rattle.game_rules.specs.AtPlace.{has_entry, has_cards, number_at};
 ghost use Rattle.game_rules.specs.Taking.{without, pile_without};
 ghost use Rattle.game_rules.specs.Putting.{with_cards};
 ghost use Rattle.game_rules.specs.Play.{is_legal_redeal, after_redeal};

@@ -44,7 +44,7 @@ turns-preserved g c = record {
   capacity = c.in_ok-leave.ensures.capacity ∙ c.turns.invariant.capacity;
   goes_on = λ first walk h. shown_left (c.turns.invariant.goes_on first walk h) c.pop.new.self.items
       c.in-Some-pop.frame c.in-Some-pop.ensures.items g.met.S.Key.Eq.laws c.back.new.self c.truncate.new.self.items
-      (memory_of g.M.Memo c.leave.new.self) c.truncate.ensures.items c.back.ensures
+      (memory_of g.M.Memo c.leave.new.self) c.truncate.ensures.items c.back.ensures.undone
       (omega (arith, c.if-stack-len.false, c.len.ensures)) c.in_ok-leave.ensures.only_finished_go
       c.in_ok-leave.ensures.capacity;
 }
@@ -52,7 +52,7 @@ turns-preserved g c = record {
 pub returns-in_err-leave-clause-err : goal.returns-in_err-leave-clause-err
 returns-in_err-leave-clause-err g c = on_err c.from_residual.result _ (λ first walk h.
     shown_leads_left (c.turns.invariant.goes_on first walk h)
-    c.pop.new.self.items c.in-Some-pop.frame c.in-Some-pop.ensures.items c.back.new.self c.back.ensures)
+    c.pop.new.self.items c.in-Some-pop.frame c.in-Some-pop.ensures.items c.back.new.self c.back.ensures.undone)
 
 pub turns-smaller : goal.turns-smaller
 turns-smaller g c =

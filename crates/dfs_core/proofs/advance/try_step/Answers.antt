@@ -18,7 +18,7 @@ returns-then-is_won-clause-met g c = λ first walk h.
     shown_win h c.index-step.result.now c.requires.untried
     (sym c.index-step.ensures) c.go-undo.result c.go-undo.new.self
     (record { undone = c.go-undo.ensures.undo; state_is = c.go-undo.ensures.state; same_play = c.go-undo.ensures.play })
-    c.back.new.self c.back.ensures (sym c.is_won.ensures ∙ c.if-is_won.true)
+    c.back.new.self c.back.ensures.undone (sym c.is_won.ensures ∙ c.if-is_won.true)
 
 pub returns-in-New-clause-met : goal.returns-in-New-clause-met
 returns-in-New-clause-met g c = λ first walk h.
@@ -38,5 +38,5 @@ returns-in-Live-clause-known g c = λ first walk h.
     (record { undone = c.go-undo.ensures.undo; state_is = c.go-undo.ensures.state; same_play = c.go-undo.ensures.play })
     (sym c.is_won.ensures ∙ c.if-is_won.false) c.key-key.result c.key-key.ensures g.met.S.Key.Eq.laws
     c.back-in-Live.new.self (record { begin = c.args.stack.now.top.begin; next = c.args.stack.now.top.next + 1 })
-    c.look.result (memory_of g.M.Memo c.look.new.self) c.back-in-Live.ensures refl refl
+    c.look.result (memory_of g.M.Memo c.look.new.self) c.back-in-Live.ensures.undone refl refl
     c.look.ensures.answer (not_new c.in-Live.is) c.look.ensures.live c.look.ensures.finished c.look.ensures.capacity

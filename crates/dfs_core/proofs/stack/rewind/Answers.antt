@@ -14,4 +14,4 @@ back-requires g c =
 pub loop-frame-preserved : goal.loop-frame-preserved
 loop-frame-preserved g c = sym (after_back
     (before_frame g.S.Space.before) c.loop-frame.frames.items c.pop.new.self.items c.in-Some.frame
-    c.loop-frame.space c.back.new.self c.in-Some.ensures.items c.back.ensures) ∙ c.loop-frame.invariant
+    c.loop-frame.space c.back.new.self c.in-Some.ensures.items c.back.ensures.undone) ∙ c.loop-frame.invariant

@@ -4,7 +4,7 @@ use Rattle.std.specs.List.{All, range_with_len, sum_by}
 use Rattle.arrayvec.specs.ArrayVec.{array_vec_len}
 use Rattle.game_rules.specs.declared.Place.{Place}
 use Rattle.game_rules.specs.declared.Place.TheVariants.{Tableau}
-use Rattle.game_rules.proofs.Listing.{legal_to}
+use Rattle.game_rules.specs.ByPlace.{legal_to}
 use Rattle.legal_moves.specs.Offers.{IsGiven, legal_of}
 use Rattle.legal_moves.proofs.offers.push_piles.Given as goal
 

@@ -3,7 +3,8 @@ use Rattle.std.specs.List.{flat_map}
 use Rattle.game_rules.specs.declared.Move.{Move}
 use Rattle.game_rules.specs.Board.{Board}
 use Rattle.game_rules.specs.Order.{sources, targets}
-use Rattle.game_rules.proofs.Listing.{legal_to, legal_moves-step_by_step}
+use Rattle.game_rules.specs.ByPlace.{legal_to}
+use Rattle.game_rules.proofs.Listing.{legal_moves-step_by_step}
 use Rattle.legal_moves.specs.Offers.{legal_of}
 use Rattle.legal_moves.proofs.order.list_all.Goals as goal
 

@@ -1,6 +1,6 @@
 use Rattle.std.proofs.Common.{◌∙◌, ◌++◌, ap, lit<, string_bytes}
 use Rattle.std.proofs.lemmas.List.Elements.{All-more}
-use Rattle.line_printer.specs.MoveText.{IsSmall}
+use Rattle.line_printer.specs.SmallMoves.{IsSmall}
 use Rattle.line_printer.proofs.LineTexts.{line_text_pushed}
 use Rattle.line_printer.proofs.write.push_moves.Goals as goal
 

@@ -1,6 +1,6 @@
 use Rattle.std.proofs.Common.{◌≡◌, ◌++◌, string_bytes, take}
 use Rattle.std.specs.List.{All}
-use Rattle.line_printer.specs.MoveText.{IsSmall}
+use Rattle.line_printer.specs.SmallMoves.{IsSmall}
 use Rattle.line_printer.specs.LineFile.{line_text}
 use Rattle.line_printer.proofs.write.push_moves.Given as goal
 

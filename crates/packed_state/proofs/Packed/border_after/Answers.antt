@@ -1,7 +1,8 @@
 use Rattle.std.proofs.Common.{◌≡◌, ℕ, ◌+◌, ◌<◌, suc, ap, ◌∙◌, arith}
 use Rattle.card_links.specs.Chains.{size_at}
 use Rattle.game_rules.specs.Board.{Board}
-use Rattle.game_rules.specs.StockMoves.{IsNextByStock, after_stock_moves}
+use Rattle.game_rules.specs.StockMoves.{after_stock_moves}
+use Rattle.game_rules.specs.NextByStock.{IsNextByStock}
 use Rattle.packed_state.specs.Packed.{Linked, board_of}
 use Rattle.packed_state.proofs.Queues.{cut_at, cut-next}
 use Rattle.packed_state.proofs.StockRuns.{few_in_queue, queue_long, here_cut, is_cut}

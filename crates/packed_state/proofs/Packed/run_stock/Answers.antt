@@ -1,7 +1,7 @@
 use Rattle.std.proofs.Common.{arith}
 use Rattle.game_rules.proofs.StockMoves.{belongs-after_stock_moves}
 use Rattle.packed_state.specs.Packed.{board_of}
-use Rattle.packed_state.proofs.StockRuns.{can_cut, before_again, before_kept, cut_used, cut_cards, cut_stacked}
+use Rattle.packed_state.proofs.StockRuns.{can_cut, before_again, before_kept, cut_used, cut_cards, cut_stacked, cut_holds}
 use Rattle.packed_state.proofs.Packed.run_stock.Goals as goal
 
 pub cut-requires : goal.cut-requires
@@ -27,6 +27,12 @@ returns-clause-cards c = rw c.cut.ensures (cut_cards c.args.self.now c.keep.ensu
 
 pub returns-clause-used : goal.returns-clause-used
 returns-clause-used c = rw c.cut.ensures (cut_used c.args.self.now c.keep.ensures c.border_after-border.result)
+
+pub returns-clause-holds : goal.returns-clause-holds
+returns-clause-holds c =
+    rw c.cut.ensures
+    (λ holds. cut_holds c.args.self.now c.keep.ensures c.args.rules.now holds c.border_after-border.result
+    c.border_after-border.ensures.fits)
 
 pub returns-clause-same_notes : goal.returns-clause-same_notes
 returns-clause-same_notes c =

@@ -1,5 +1,5 @@
 use Rattle.std.proofs.Common.{◌≡◌, take, map}
-use Rattle.same_boards.proofs.KeyParts.{entry_of_byte}
+use Rattle.same_boards.specs.Bytes.{entry_of_byte}
 use Rattle.pile_symmetry.proofs.placing.entries_in.Given as goal
 
 abbrev pub invariant-loop-byte : goal.invariant-loop-byte

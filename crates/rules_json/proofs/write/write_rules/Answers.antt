@@ -1,5 +1,5 @@
 use Rattle.std.proofs.Common.{◌≡◌, ◌∙◌, ap, Ok}
-use Rattle.game_rules.specs.Conflicts.{IsPlayable}
+use Rattle.game_rules.specs.Playable.{IsPlayable}
 use Rattle.rules_json.proofs.RoundTrip.{rules_of-written}
 use Rattle.rules_json.proofs.write.write_rules.Goals as goal
 

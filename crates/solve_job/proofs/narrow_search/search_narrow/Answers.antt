@@ -3,7 +3,8 @@ use Rattle.dfs_core.specs.declared.trail.Found.TheVariants as found
 use Rattle.game_rules.specs.declared.RuleParts.{RuleParts}
 use Rattle.game_rules.specs.Board.{Board}
 use Rattle.stock_steps.specs.declared.Step.{Step}
-use Rattle.stock_steps.specs.Steps.{CanAllBeMade, expand_trail}
+use Rattle.stock_steps.specs.Steps.{expand_trail}
+use Rattle.stock_steps.specs.Making.{CanAllBeMade}
 use Rattle.search_space.specs.Narrow.{narrow_game}
 use Rattle.solve_job.specs.declared.limits.Limits.{Limits}
 use Rattle.solve_job.specs.Verdicts.{FindsWin}

@@ -5,7 +5,8 @@ use Rattle.game_rules.specs.declared.RuleParts.{RuleParts}
 use Rattle.game_rules.specs.Board.{Board}
 use Rattle.game_rules.specs.Winning.{Won}
 use Rattle.stock_steps.specs.declared.Step.{Step}
-use Rattle.stock_steps.specs.Steps.{CanAllBeMade, expand_trail, steps}
+use Rattle.stock_steps.specs.Steps.{expand_trail, steps}
+use Rattle.stock_steps.specs.Making.{CanAllBeMade}
 use Rattle.search_space.specs.Game.{plain_game}
 use Rattle.search_space.specs.Narrow.{narrow_game}
 use Rattle.search_space.proofs.Agreeing.{agrees, keyed_game}

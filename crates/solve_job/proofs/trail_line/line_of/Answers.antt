@@ -6,7 +6,8 @@ use Rattle.game_rules.specs.Board.{Board}
 use Rattle.game_rules.specs.Play.{Legal, after}
 use Rattle.packed_state.specs.Packed.{board_of}
 use Rattle.stock_steps.specs.declared.Step.{Step}
-use Rattle.stock_steps.specs.Steps.{CanAllBeMade, after_step, expand_trail}
+use Rattle.stock_steps.specs.Steps.{after_step, expand_trail}
+use Rattle.stock_steps.specs.Making.{CanAllBeMade}
 use Rattle.solve_job.proofs.Lines.{drop-step, moves-more}
 use Rattle.solve_job.proofs.trail_line.line_of.Goals as goal
 

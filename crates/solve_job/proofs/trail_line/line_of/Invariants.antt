@@ -1,7 +1,8 @@
 use Rattle.std.proofs.Common.{◌≡◌, ◌++◌, drop}
 use Rattle.game_rules.specs.Belonging.{Belongs}
 use Rattle.packed_state.specs.Packed.{board_of}
-use Rattle.stock_steps.specs.Steps.{CanAllBeMade, expand_trail}
+use Rattle.stock_steps.specs.Steps.{expand_trail}
+use Rattle.stock_steps.specs.Making.{CanAllBeMade}
 use Rattle.solve_job.proofs.trail_line.line_of.Given as goal
 
 abbrev pub invariant-loop-step : goal.invariant-loop-step

@@ -6,7 +6,8 @@ use Rattle.game_rules.specs.declared.Move.{Move}
 use Rattle.game_rules.specs.declared.Move.TheVariants.{Deal, Redeal}
 use Rattle.game_rules.specs.Rules.{deals_to_waste}
 use Rattle.game_rules.specs.Board.{Board}
-use Rattle.game_rules.specs.StockMoves.{IsNextByStock, after_stock_moves}
+use Rattle.game_rules.specs.StockMoves.{after_stock_moves}
+use Rattle.game_rules.specs.NextByStock.{IsNextByStock}
 use Rattle.packed_state.specs.Packed.{board_of}
 use Rattle.stock_steps.specs.Steps.{stock_moves}
 use Rattle.stock_moves.proofs.StepMoves.{deal-next, redeal-next, moves-more, size-after}

@@ -1,7 +1,8 @@
 use Rattle.std.proofs.Common.{◌++◌, List, ap, sym, subst, ◌∙◌, arith, Contains}
 use Rattle.packed_state.specs.Packed.{Linked, board_of}
 use Rattle.stock_steps.specs.declared.Step.{Step}
-use Rattle.stock_steps.specs.Steps.{CanBeMade, stock_steps}
+use Rattle.stock_steps.specs.Steps.{stock_steps}
+use Rattle.stock_steps.specs.Making.{CanBeMade}
 use Rattle.stock_steps.proofs.StepLines.{stock_steps-made}
 use Rattle.stock_moves.proofs.tests.expansions.Goals as goal
 

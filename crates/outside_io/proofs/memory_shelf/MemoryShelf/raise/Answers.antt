@@ -1,7 +1,7 @@
 use Rattle.std.proofs.Common.{◌∙◌, ap, sym, refl, not, cond, position}
 use Rattle.std.proofs.lemmas.Slice.Eq.{bytes_eq-Decides}
 use Rattle.std.specs.Str.{bytes_eq}
-use Rattle.outside_io.specs.Faults.{one_more}
+use Rattle.outside_io.specs.Calls.{one_more}
 use Rattle.outside_io.specs.MemoryShelf.{is_named, count_of, shelf_faults, was_added}
 use Rattle.outside_io.proofs.Entries.{some_file, no_file, common_count_raised, count_with_more}
 use Rattle.outside_io.proofs.Rising.{Rose-raised}

@@ -1,7 +1,8 @@
 use Rattle.std.proofs.Common.{◌≡◌, ℕ, ◌+◌, suc, ap, sym, subst, ◌∙◌, arith}
 use Rattle.game_rules.specs.Board.{Board}
 use Rattle.game_rules.specs.Play.{Legal, after}
-use Rattle.game_rules.specs.StockMoves.{HasStockMoves, after_stock_moves}
+use Rattle.game_rules.specs.StockMoves.{after_stock_moves}
+use Rattle.game_rules.specs.NextByStock.{HasStockMoves}
 use Rattle.game_rules.proofs.StockMoves.{has-more}
 use Rattle.packed_state.specs.Packed.{Linked, board_of}
 use Rattle.packed_state.proofs.tests.walks.run_stock_moves.Goals as goal

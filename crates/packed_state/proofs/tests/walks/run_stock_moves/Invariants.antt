@@ -1,6 +1,7 @@
 use Rattle.std.proofs.Common.{◌≡◌}
 use Rattle.game_rules.specs.Belonging.{Belongs}
-use Rattle.game_rules.specs.StockMoves.{HasStockMoves, after_stock_moves}
+use Rattle.game_rules.specs.StockMoves.{after_stock_moves}
+use Rattle.game_rules.specs.NextByStock.{HasStockMoves}
 use Rattle.packed_state.specs.Packed.{board_of}
 use Rattle.packed_state.proofs.tests.walks.run_stock_moves.Given as goal
 

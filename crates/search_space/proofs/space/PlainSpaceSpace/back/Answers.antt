@@ -1,5 +1,6 @@
 use Rattle.std.proofs.Common.{ap, sym, subst, ◌∙◌}
-use Rattle.std.specs.Prelude.{IsSome}
+use Rattle.std.specs.Prelude.{IsSome, ◌↔◌}
+use Rattle.game_rules.specs.Winning.{Wins}
 use Rattle.search_space.specs.Plain.{Standing, before_of}
 use Rattle.search_space.proofs.Returning.{belongs-before, before_of-some}
 use Rattle.search_space.proofs.space.PlainSpaceSpace.back.Goals as goal
@@ -12,11 +13,16 @@ invariant_of-self c =
           c.self.invariant.0 some c.back_step.ensures,
     )
 
-pub returns : goal.returns
-returns c =
+pub returns-clause-undone : goal.returns-clause-undone
+returns-clause-undone c =
     let some = subst (λ (s : Standing). IsSome (before_of c.args.undo s)) (sym c.self.view_is) c.requires in
     let belongs = belongs-before c.self.inside.rules.now c.args.undo c.self.inside.packed c.back_step.new.packed
     c.self.invariant.0 some c.back_step.ensures in
     sym (ap (before_of c.args.undo) c.self.view_is)
     ∙ before_of-some c.self.inside.rules.now c.args.undo c.self.inside.packed c.back_step.new.packed
     c.self.invariant.0 belongs c.back_step.ensures
+
+pub returns-clause-wins : goal.returns-clause-wins
+returns-clause-wins c = λ n board.
+    subst (λ (s : Standing). Wins c.self.inside.rules.now n board ↔ Wins s.rules n board) c.self.view_is
+    (λ wins. wins, λ wins. wins)

@@ -1,9 +1,10 @@
 use Rattle.std.proofs.Common.{◌+◌, ◌-◌, ◌<◌, ◌≤◌, true, [], ◌∷◌, ◌++◌, length, set, take, sym, ap, ◌∙◌, subst, arith}
-use Rattle.std.proofs.lemmas.List.{get_or_default}
+use Rattle.std.proofs.Common.{length-append}
+use Rattle.std.proofs.lemmas.List.{get_or_default, length-set}
 use Rattle.hash_chains.specs.Index.{Index}
 use Rattle.transposition.specs.Memo.{HoldsEachKeyOnce}
 use Rattle.transposition.specs.Table.{IsTable, hash32, keys_at}
-use Rattle.transposition.proofs.Tables.{spare_parts}
+use Rattle.transposition.proofs.Tables.{spare_parts, spare_reused, spare_entered}
 use Rattle.transposition.proofs.Entries.{reused, reused_live, reused_finished, reused_once, entered, entered_live}
 use Rattle.transposition.proofs.Entries.{entered_finished, entered_once}
 use Rattle.transposition.proofs.linked_memo.LinkedMemoMemo.enter.Goals as goal
@@ -147,3 +148,31 @@ returns-clause-finished g c =
     ∙ entered_finished hash m.keys.items m.chains.hashes m.order.order m.order.nodes m.flags.items m.path.items m.depth
     m.capacity m.table
     c.args.key c.hash_of-hash.result c.hash_of-hash.ensures none_free node node_is noded marked
+
+pub returns-then-self-len-clause-spare : goal.returns-then-self-len-clause-spare
+returns-then-self-len-clause-spare g c =
+    let m = c.args.self.now in
+    let free : m.depth < length m.path.items =
+    (let t = c.if-self-len.true in let e = c.len.ensures in let o = m.path.ok.0 in omega arith) in
+    let room = ap (λ (v : Index). v.room) c.replace.ensures in
+    let flags = length-set m.flags.items c.index-node.result.now true in
+    let keys = length-set m.keys.items (c.index-node.result.now - 1) c.args.key in
+    spare_reused _ _ _ _ _ _ _ _ _ _ (omega (arith, free)) (sym room) (omega (arith, flags, keys))
+    (omega (arith, keys))
+
+pub returns-clause-spare : goal.returns-clause-spare
+returns-clause-spare g c =
+    let m = c.args.self.now in
+    let flags = length-set m.flags.items c.len-node.result true in
+    let key = length-append m.keys.items (c.args.key ∷ []) in
+    let keys = ap length c.in-Ok.ensures.items in
+    let node = length-append m.path.items (c.len-node.result ∷ []) in
+    let path = ap length c.in-Ok-push.ensures.items in
+    let none_free : length m.path.items ≤ m.depth =
+    (let t = c.if-self-len.false in let e = c.len.ensures in let o = m.path.ok.0 in omega arith) in
+    spare_entered _ _ _ _ _ _ _ _ _ _ _ _ (omega (arith, none_free))
+    (omega (arith, c.in-Ok.ensures.capacity, c.in-Ok.ensures.upper_bound))
+    (omega (arith, c.in-Ok-push.ensures.capacity, c.in-Ok-push.ensures.upper_bound))
+    c.push.ensures.room
+    (omega (arith, flags, key, keys))
+    (omega (arith, key, keys))

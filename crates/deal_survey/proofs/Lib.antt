@@ -1,0 +1,4 @@
+pub mod Allowed
+pub mod Sums
+pub mod SeedLines
+pub mod Heads
