@@ -5,14 +5,15 @@ use Rattle.std.proofs.lemmas.List.{reverse-append, reverse-reverse}
 use Rattle.game_rules.specs.declared.RuleParts.{RuleParts}
 use Rattle.game_rules.specs.declared.Move.{Move}
 use Rattle.game_rules.specs.Board.{Board}
-use Rattle.game_rules.specs.Conflicts.{IsPlayable}
+use Rattle.game_rules.specs.Playable.{IsPlayable}
 use Rattle.game_rules.specs.Play.{Legal, after}
 use Rattle.game_rules.specs.Belonging.{Belongs}
 use Rattle.game_rules.specs.Winning.{Line}
 use Rattle.packed_state.specs.declared.Undo.{Undo}
 use Rattle.packed_state.specs.Packed.{Linked, board_of}
 use Rattle.packed_state.specs.Undoing.{before}
-use Rattle.play_session.specs.Held.{Held, board, Stands, with_earlier, earlier, held, AreLed, HaveRoom, IsHeld}
+use Rattle.play_session.specs.Held.{Held, board, Stands}
+use Rattle.play_session.specs.Kept.{with_earlier, earlier, held, AreLed, HaveRoom, IsHeld}
 use Rattle.play_session.proofs.Lines.{Line-append, Line-board, Line-belongs}
 
 -- the moves lead from the start to the packed board

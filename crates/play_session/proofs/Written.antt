@@ -16,8 +16,8 @@ use Rattle.play_session.specs.declared.order.Order.{Order}
 use Rattle.play_session.specs.declared.order.Order.TheVariants.{Make, Undo, Redo, Show, Solved}
 use Rattle.play_session.specs.declared.fault.ScriptFault.{ScriptFault}
 use Rattle.play_session.specs.declared.fault.ScriptFault.TheVariants.{TooLong, BadOrder}
-use Rattle.play_session.specs.ScriptFile.{order_text, script_text, made, order_of_text, with_order, orders_from}
-use Rattle.play_session.specs.ScriptFile.{script_of}
+use Rattle.play_session.specs.ScriptFile.{made, order_of_text, with_order, orders_from}
+use Rattle.play_session.specs.ScriptText.{order_text, script_text}
 use Rattle.play_session.specs.Reads.{ReadsAs}
 
 -- what a choice gives

@@ -1,7 +1,9 @@
 pub mod Moves
-pub mod Held
-pub mod ScriptFile
 pub mod SessionText
+pub mod ScriptFile
 pub mod FaultText
-pub mod Reads
+pub mod Held
+pub mod Kept
 pub mod Runs
+pub mod ScriptText
+pub mod Reads

@@ -1,28 +1,15 @@
 -- The file of a session's orders.
-use Rattle.std.specs.Prelude.{ℕ, ◌+◌, nat_lt, List, [], ◌∷◌, ◌++◌, length, Option, Some, None, Result}
+use Rattle.std.specs.Prelude.{ℕ, ◌+◌, nat_lt, List, [], ◌∷◌, length, Option, Some, None, Result}
 use Rattle.std.specs.Prelude.{Ok, Err, codes, if◌then◌else◌}
 use Rattle.std.specs.Str.{bytes_eq}
 use Rattle.game_rules.specs.Play.{is_empty}
 use Rattle.game_rules.specs.declared.Move.{Move}
-use Rattle.line_printer.specs.MoveText.{move_text, move_of_text}
-use Rattle.line_printer.specs.LineFile.{ended, parts_of}
+use Rattle.line_printer.specs.MoveText.{move_of_text}
+use Rattle.line_printer.specs.LineFile.{parts_of}
 use Rattle.play_session.specs.declared.order.Order.{Order}
 use Rattle.play_session.specs.declared.order.Order.TheVariants.{Make, Undo, Redo, Show, Solved}
 use Rattle.play_session.specs.declared.fault.ScriptFault.{ScriptFault}
 use Rattle.play_session.specs.declared.fault.ScriptFault.TheVariants.{TooLong, BadOrder}
-
--- the text of an order
-abbrev pub order_text : Order → List ℕ
-order_text (Make move) = move_text move
-order_text Undo = codes "undo"
-order_text Redo = codes "redo"
-order_text Show = codes "show"
-order_text Solved = codes "solved?"
-
--- the text of orders: each order's text on a line of its own
-abbrev pub script_text : List Order → List ℕ
-script_text [] = []
-script_text (order ∷ orders) = ended (order_text order) ++ script_text orders
 
 -- the order to make a move, if there is one
 abbrev pub made : Option Move → Option Order

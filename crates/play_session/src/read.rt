@@ -1,7 +1,8 @@
 //! Scripts, read.
 ghost use Rattle.std.specs.Prelude.{◌≡◌, ◌≤◌, length, IfOk};
 ghost use Rattle.line_printer.specs.LineFile.{parts_of};
-ghost use Rattle.play_session.specs.ScriptFile.{order_of_text, orders_from, script_of, script_text};
+ghost use Rattle.play_session.specs.ScriptFile.{order_of_text, orders_from, script_of};
+ghost use Rattle.play_session.specs.ScriptText.{script_text};
 ghost use Rattle.play_session.specs.Reads.{ReadsAs};
 
 use crate::{Order, Script, ScriptFault};

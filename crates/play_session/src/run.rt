@@ -127,12 +127,11 @@ fn run_order(
 }
 
 /// Appends how many moves stand.
-fn push_standing(alloc: Global, session: &Session, out: &mut Vec<u8>) -> Result<(), NoMemory>
+fn push_standing(alloc: Global, count: usize, out: &mut Vec<u8>) -> Result<(), NoMemory>
     ensures pushed { OnOk result (out.new.items ≡ out.old.items
-        ++ ended (codes "standing " ++ decimal (length session.now.moves.standing))) }
+        ++ ended (codes "standing " ++ decimal count)) }
     ensures begun { OnErr result (take (length out.old.items) out.new.items ≡ out.old.items) }
 {
-    let count = session.standing().len();
     let text = format!(in alloc; "standing {count}")?;
     push_line(out, text.as_bytes())
 }
@@ -159,7 +158,7 @@ fn run_orders(
     for order in orders {
         run_order(alloc, session, rules, *order, out)?;
     }
-    push_standing(alloc, session, out)
+    push_standing(alloc, session.standing().len(), out)
 }
 
 /// Carries out each order in turn, and appends a line for each of them to `out`: `ok` where it was

@@ -37,7 +37,8 @@ pub struct Session {
 
 impl Model for Session {
     ghost use Rattle.std.specs.Prelude.{length};
-    ghost use Rattle.play_session.specs.Held.{Held, IsHeld, HaveRoom, held};
+    ghost use Rattle.play_session.specs.Held.{Held};
+    ghost use Rattle.play_session.specs.Kept.{IsHeld, HaveRoom, held};
 
     ghost Value = { Held };
 
@@ -99,6 +100,7 @@ impl Session {
         ensures rules { IfOk result (λ s. s.rules ≡ rules.now) }
         ensures start { IfOk result (λ s. s.start ≡ start.now) }
         ensures moves { IfOk result (λ s. s.moves ≡ no_moves) }
+        ensures earlier { IfOk result (λ s. s.earlier ≡ []) }
         ensures stands { IfOk result Stands }
     {
         let _ = rules.parts();
@@ -136,7 +138,7 @@ impl Session {
         let undo = self.packed.go(rules, m);
         push_within(&mut self.standing, m);
         push_within(&mut self.undos, undo);
-        self.undone.clear();
+        self.undone.truncate(0);
         Ok(())
     }
 
@@ -179,13 +181,13 @@ impl Session {
         ensures stands { Stands self.new }
     {
         self.keep();
-        let Some(m) = self.undone.pop() else {
+        let Some(next) = self.undone.pop() else {
             return Err(NothingToRedo);
         };
-        let undo = self.packed.go(rules, m);
-        push_within(&mut self.standing, m);
+        let undo = self.packed.go(rules, next);
+        push_within(&mut self.standing, next);
         push_within(&mut self.undos, undo);
-        Ok(m)
+        Ok(next)
     }
 
     /// The moves that stand, in the order in which they were made. It takes no memory.

@@ -1,7 +1,7 @@
 use Rattle.std.proofs.Common.{◌∙◌, ◌++◌, ◌∷◌, [], ◌≡◌, ◌<◌, true, ap, sym, refl, arith, length}
 use Rattle.game_rules.specs.Play.{is_legal_move, after}
 use Rattle.packed_state.specs.Packed.{board_of}
-use Rattle.play_session.specs.Held.{IsHeld, held}
+use Rattle.play_session.specs.Kept.{IsHeld, held}
 use Rattle.play_session.proofs.Holding.{held_more, room_made, none_left}
 use Rattle.play_session.proofs.session.Session.apply.Goals as goal
 
@@ -19,11 +19,11 @@ invariant_of-self-2 c =
     let r = room.undone_room in
     let x = c.push_within.ensures.capacity in
     let y = c.push_within-2.ensures.capacity in
-    let z = c.clear.ensures.capacity in
+    let z = c.truncate.ensures.capacity in
     (
       held_more _ _ _ _ _ _ _ _ _ _ _ _ _ c.self.invariant.0 legal moved c.go-undo.ensures.can_go_back
-          (none_left _ _ _ c.clear.ensures.items) standing notes,
-      room_made _ _ _ _ _ _ _ standing c.clear.ensures.items (omega arith) (omega arith) (omega arith),
+          (none_left _ _ _ c.truncate.ensures.items) standing notes,
+      room_made _ _ _ _ _ _ _ standing c.truncate.ensures.items (omega arith) (omega arith) (omega arith),
     )
 
 pub returns-clause-stands : goal.returns-clause-stands

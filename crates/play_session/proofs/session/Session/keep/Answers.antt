@@ -1,5 +1,5 @@
 use Rattle.std.proofs.Common.{subst}
-use Rattle.game_rules.specs.Conflicts.{IsPlayable}
+use Rattle.game_rules.specs.Playable.{IsPlayable}
 use Rattle.play_session.specs.Held.{Held, Stands}
 use Rattle.play_session.proofs.Holding.{stands_here, stands_well}
 use Rattle.play_session.proofs.session.Session.keep.Goals as goal
