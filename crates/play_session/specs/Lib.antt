@@ -1,0 +1,9 @@
+pub mod Moves
+pub mod SessionText
+pub mod ScriptFile
+pub mod FaultText
+pub mod Held
+pub mod Kept
+pub mod Runs
+pub mod ScriptText
+pub mod Reads
