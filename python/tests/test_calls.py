@@ -41,7 +41,7 @@ class EachCall(unittest.TestCase):
         self.assertEqual(solve(TWO_PILES, ACE_UNDER_TWO, nodes=1).outcome, Outcome.UNDECIDED)
 
     def test_files_and_seeds_are_taken_as_well(self) -> None:
-        verdict = solve(GAMES / "freecell.json", 1, narrow=100000, way="both", memo="lru", cache=1000)
+        verdict = solve(GAMES / "freecell.json", 1, narrow=100000, way="both", memo="lru", cache=100000)
         self.assertEqual(verdict.outcome, Outcome.WINNABLE)
         dealt = deal(GAMES / "freecell.json", 1)
         self.assertEqual(replay(GAMES / "freecell.json", dealt, verdict.moves), len(verdict.moves))
