@@ -54,14 +54,6 @@ class OutOfMemory(Refused):
     """The program found no memory: status 16."""
 
 
-class CertificateRefused(Refused):
-    """The certificate has a fault, or does not show that the deal cannot be won: status 17."""
-
-
-class ScriptRefused(Refused):
-    """The script of a session has a fault: status 18."""
-
-
 _BY_STATUS: dict[int, type[Refused]] = {
     10: WordsRefused,
     11: FileFailed,
@@ -69,8 +61,6 @@ _BY_STATUS: dict[int, type[Refused]] = {
     13: DealRefused,
     14: LineRefused,
     16: OutOfMemory,
-    17: CertificateRefused,
-    18: ScriptRefused,
 }
 
 

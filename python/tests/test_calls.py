@@ -14,9 +14,8 @@ from pathlib import Path
 
 import patience_games
 from patience_games import (
-    CertificateRefused, Closing, Deal, DealRefused, FileFailed, LineRefused, Move, Outcome, ProgramNotFound, Rules,
-    RulesRefused, ScriptRefused, Solved, Stock, Tableau, TimedOut, WordsRefused, check, close, deal, find_program,
-    play, replay, shortest, solve, solve_many, spell, survey,
+    Deal, DealRefused, FileFailed, LineRefused, Move, Outcome, ProgramNotFound, Rules, RulesRefused, Solved, Tableau,
+    TimedOut, WordsRefused, deal, find_program, replay, solve, solve_many, spell,
 )
 
 TOP = Path(__file__).resolve().parent.parent.parent
@@ -58,39 +57,6 @@ class EachCall(unittest.TestCase):
                 self.assertEqual(spell(rules), rules)
                 self.assertEqual(spell(Rules.from_file(path)), rules)
 
-    def test_a_shortest_line(self) -> None:
-        found = shortest(TWO_PILES, ACE_UNDER_TWO)
-        self.assertEqual((found.outcome, len(found.moves), found.nodes), (Outcome.WINNABLE, 3, 3))
-        self.assertEqual(shortest(ONE_PILE, STUCK).outcome, Outcome.UNWINNABLE)
-        open_yet = shortest(TWO_PILES, ACE_UNDER_TWO, nodes=2)
-        self.assertEqual((open_yet.outcome, open_yet.bound), (Outcome.UNDECIDED, 3))
-
-    def test_a_certificate_is_accepted_and_a_spoiled_one_refused(self) -> None:
-        closed = close(ONE_PILE, STUCK)
-        self.assertEqual((closed.outcome, closed.keys), (Closing.CLOSED, 1))
-        assert closed.certificate is not None
-        self.assertEqual(check(ONE_PILE, STUCK, closed.certificate), 1)
-        with self.assertRaises(CertificateRefused) as refused:
-            check(ONE_PILE, STUCK, "closed\nkeys 0\n")
-        self.assertEqual((refused.exception.text, refused.exception.status), ("refused certificate start-missing", 17))
-        self.assertEqual(close(TWO_PILES, ACE_UNDER_TWO).outcome, Closing.REACHES_WIN)
-        nine = Rules(max_rank=3, tableau=Tableau(piles=2))
-        limited = close(nine, Deal(tableau=[["AC", "2C", "3C"], []], foundations=[0, 3, 3, 3]), keys=1)
-        self.assertEqual((limited.outcome, limited.keys, limited.certificate), (Closing.LIMIT, 1, None))
-
-    def test_a_session_of_play(self) -> None:
-        played = play(TWO_PILES, ACE_UNDER_TWO, ["t0 f0", Move("t0", "t1"), "undo", "undo", "redo", "solved?"])
-        self.assertEqual(
-            played.lines, ("refused not-legal", "ok", "ok", "refused nothing-to-undo", "ok", "no"),
-        )
-        self.assertEqual(played.standing, 1)
-
-    def test_a_survey(self) -> None:
-        rules = Rules(max_rank=1, stock=Stock(size=4))
-        judged = survey(rules, first=0, count=3, nodes=1)
-        self.assertEqual(judged.outcomes, {seed: Outcome.UNDECIDED for seed in range(3)})
-        self.assertEqual(survey(rules, first=42, count=1).count(Outcome.WINNABLE), 1)
-
 
 class EachRefusal(unittest.TestCase):
     def test_words(self) -> None:
@@ -116,11 +82,6 @@ class EachRefusal(unittest.TestCase):
         with self.assertRaises(LineRefused) as refused:
             replay(TWO_PILES, ACE_UNDER_TWO, [Move("t0", "f0")])
         self.assertEqual(refused.exception.text, "refused line illegal 0")
-
-    def test_script(self) -> None:
-        with self.assertRaises(ScriptRefused) as refused:
-            play(TWO_PILES, ACE_UNDER_TWO, ["undo", "back"])
-        self.assertEqual((refused.exception.text, refused.exception.status), ("refused script bad-order 2", 18))
 
     def test_no_program(self) -> None:
         with self.assertRaises(ProgramNotFound):

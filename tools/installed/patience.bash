@@ -1,7 +1,7 @@
 # Completion of patience for bash.
 _patience() {
     local current=${COMP_WORDS[COMP_CWORD]} before=${COMP_WORDS[COMP_CWORD - 1]} command=${COMP_WORDS[1]}
-    local commands='solve replay deal rules shortest close check play survey'
+    local commands='solve replay deal rules'
     COMPREPLY=()
     if [ "$COMP_CWORD" -eq 1 ]; then
         mapfile -t COMPREPLY < <(compgen -W "$commands --help --version" -- "$current")
@@ -17,10 +17,7 @@ _patience() {
         local options=
         case $command in
         solve) options='--nodes --cache --narrow --way --memo --seed' ;;
-        survey) options='--from --count --nodes --cache --narrow --way --memo' ;;
         deal) options='--seed' ;;
-        shortest) options='--nodes' ;;
-        close) options='--keys' ;;
         esac
         mapfile -t COMPREPLY < <(compgen -W "$options" -- "$current")
         return

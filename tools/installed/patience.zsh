@@ -4,8 +4,7 @@ _patience() {
     local -a commands solving
     commands=(
         'solve:decide a deal' 'replay:say whether moves win' 'deal:print the deal of a number'
-        'rules:print the rules in full' 'shortest:find a shortest line' 'close:print a certificate'
-        'check:check a certificate' 'play:play moves and take them back' 'survey:judge a range of deals'
+        'rules:print the rules in full'
     )
     solving=(
         '--nodes[positions to expand at most]:number:' '--cache[finished positions to remember]:number:'
@@ -21,13 +20,8 @@ _patience() {
     (( CURRENT-- ))
     case $words[1] in
     solve) _arguments $rules '2:deal:_files' $solving '--seed[the deal of this number]:number:' ;;
-    survey) _arguments $rules $solving '--from[the first number]:number:' '--count[how many]:number:' ;;
     deal) _arguments $rules '--seed[the number of the deal]:number:' ;;
-    shortest) _arguments $rules '2:deal:_files' '--nodes[boards to keep at most]:number:' ;;
-    close) _arguments $rules '2:deal:_files' '--keys[keys at most]:number:' ;;
     replay) _arguments $rules '2:deal:_files' '3:line:_files' ;;
-    check) _arguments $rules '2:deal:_files' '3:certificate:_files' ;;
-    play) _arguments $rules '2:deal:_files' '3:script:_files' ;;
     rules) _arguments $rules ;;
     esac
 }
