@@ -123,7 +123,8 @@ fn faults_are_printed(rt: HostRuntime) -> Result<(), Fail> {
 /// Makes a move and takes it back: the packed board is as before, in every slot and link.
 fn go_and_come_back(session: &mut Session, rules: &Rules, m: Move) -> Result<(), PlayFault>
     requires { rules.now ≡ session.old.rules }
-    ensures { OnOk result (session.new.packed ≡ session.old.packed) }
+    ensures back { OnOk result (session.new.packed ≡ session.old.packed) }
+    ensures rules { session.new.rules ≡ session.old.rules }
 {
     session.apply(rules, m)?;
     let _taken_back = session.undo();
